@@ -1,0 +1,54 @@
+-- Dictionary order is a strict order of all lists, so "the first" is one.
+use mathlib.Core.Path.{_≡_, refl, sym, ap, subst, _∙_}
+use mathlib.Core.Bool.{Bool, true, false, true≢false, false≢true}
+use mathlib.Core.Logic.{_⊎_, inl, inr, ⊎-elim}
+use mathlib.Core.List.{List, [], _∷_}
+use Prim.Native.Nat.{ℕ, zero, suc, _≤_, _<_}
+use native.Mathlib.Omega.{arith}
+use lib.ListN.{length}
+use Rattle.graph.specs.Tests.{_is_, _below_, _and_, _or_}
+use Rattle.graph.specs.First.{dictionary, shorter, First}
+use Rattle.graph.proofs.Truth.{decide, not-both, to-false, to-true, and→, →and, or→, →or-left, →or-right, is→, →is, isnt→, →isnt, below→, →below, not-below→}
+
+-- two lists neither of which comes before the other are one
+pub dictionary-same : (v w : List ℕ) → dictionary v w ≡ false → dictionary w v ≡ false → v ≡ w
+unfolding dictionary
+dictionary-same [] [] p q = refl
+dictionary-same [] (b ∷ w) p q = absurd (true≢false p)
+dictionary-same (a ∷ v) [] p q = absurd (true≢false q)
+dictionary-same (a ∷ v) (b ∷ w) p q = go (decide (a below b)) (decide (b below a)) (dictionary-same v w)
+  where
+    go : ((a below b) ≡ true) ⊎ ((a below b) ≡ false) → ((b below a) ≡ true) ⊎ ((b below a) ≡ false)
+        → (dictionary v w ≡ false → dictionary w v ≡ false → v ≡ w) → a ∷ v ≡ b ∷ w
+    go (inl c) d rec = absurd (not-both (→or-left _ c) p)
+    go (inr c) (inl d) rec = absurd (not-both (→or-left _ d) q)
+    go (inr c) (inr d) rec =
+        let e : a ≡ b = omega (arith, not-below→ c, not-below→ d) in
+        let f : v ≡ w = rec (to-false _ (λ h. not-both (→or-right _ (→and (→is e) h)) p)) (to-false _ (λ h. not-both (→or-right _ (→and (→is (sym e)) h)) q)) in
+        cc
+
+pub shorter-same : (v w : List ℕ) → shorter v w ≡ false → shorter w v ≡ false → v ≡ w
+unfolding shorter
+shorter-same v w p q = go (decide (length v below length w)) (decide (length w below length v))
+  where
+    go : ((length v below length w) ≡ true) ⊎ ((length v below length w) ≡ false) → ((length w below length v) ≡ true) ⊎ ((length w below length v) ≡ false) → v ≡ w
+    go (inl c) d = absurd (not-both (→or-left _ c) p)
+    go (inr c) (inl d) = absurd (not-both (→or-left _ d) q)
+    go (inr c) (inr d) =
+        let e : length v ≡ length w = omega (arith, not-below→ c, not-below→ d) in
+        dictionary-same v w (to-false _ (λ h. not-both (→or-right _ (→and (→is e) h)) p)) (to-false _ (λ h. not-both (→or-right _ (→and (→is (sym e)) h)) q))
+
+-- so what is first in either order is one list
+pub first-one : (earlier : List ℕ → List ℕ → Bool) → ((v w : List ℕ) → earlier v w ≡ false → earlier w v ≡ false → v ≡ w)
+    → (passes : List ℕ → Bool) (v w : List ℕ) → First earlier passes v → First earlier passes w → v ≡ w
+first-one earlier same passes v w p q = same v w (q .none-earlier v (p .one)) (p .none-earlier w (q .one))
+
+pub dictionary-not : (a c : ℕ) (v u : List ℕ) → c ≤ a → (a ≡ c → dictionary v u ≡ false) → dictionary (a ∷ v) (c ∷ u) ≡ false
+unfolding dictionary
+dictionary-not a c v u h f =
+    to-false _ (λ k. ⊎-elim (λ (l : (a below c) ≡ true). let z : a < c = below→ l in omega arith) (λ l. not-both (and→ l .1) (f (is→ (and→ l .0)))) (or→ k))
+
+pub shorter-not : (v w : List ℕ) → length w ≤ length v → (length v ≡ length w → dictionary v w ≡ false) → shorter v w ≡ false
+unfolding shorter
+shorter-not v w h f =
+    to-false _ (λ k. ⊎-elim (λ (l : (length v below length w) ≡ true). let z : length v < length w = below→ l in omega arith) (λ l. not-both (and→ l .1) (f (is→ (and→ l .0)))) (or→ k))

@@ -1,0 +1,102 @@
+-- The verdicts, computed by trying every list: for small logs. What is computed is the answer that the definitions ask for.
+use mathlib.Core.Path.{_≡_, refl, sym, ap, subst, _∙_}
+use mathlib.Core.Bool.{Bool, true, false, true≢false, false≢true}
+use mathlib.Core.Logic.{_⊎_, inl, inr, ⊎-elim}
+use mathlib.Core.List.{List, [], _∷_}
+use mathlib.Core.Option.{Option, none, some}
+use Prim.Native.Nat.{ℕ, zero, suc, _≤_, _<_}
+use native.Mathlib.Omega.{arith}
+use lib.ListN.{length}
+use Rattle.graph.specs.Tests.{_below_, _upto_, _and_, _implies_, every}
+use Rattle.graph.specs.Lists.{member, all, distinct}
+use Rattle.graph.specs.First.{dictionary, shorter, First, Never}
+use Rattle.graph.specs.Order.{once-each, keeps, is-order}
+use Rattle.graph.specs.Cycle.{leads, is-cycle}
+use Rattle.graph.specs.Shows.{Shown, order, cycle, Shows, shows-order, shows-cycle}
+use Rattle.graph.proofs.Truth.{decide, not-both, to-false, and→, →and, →fails, implies→, every→, →every, is→, →is, below→, →below, not-below→}
+use Rattle.graph.proofs.Places.{member→, all→, →all, member-head, member-tail}
+use Rattle.graph.proofs.Search.{rising, find-list, find-short, ascending, find-first, find-none, short-first, short-none}
+use Rattle.graph.proofs.Pigeon.{pigeon, rising-distinct, ascending-rises, ascending-has, ascending-only}
+
+unfoldable pub shown-by : Option (List ℕ) → Option (List ℕ) → Option Shown
+shown-by (some c) w = some (cycle c)
+shown-by none (some w) = some (order w)
+shown-by none none = none
+
+module _ (n : ℕ) (node : ℕ → Bool) where
+  -- the nodes, ascending
+  unfoldable pub nodes : List ℕ
+  nodes = ascending n node []
+
+  -- the graph's answer, computed
+  unfoldable pub judge-graph : (ℕ → ℕ → Bool) → Option Shown
+  judge-graph edge = shown-by (find-short (suc (length nodes)) (is-cycle edge) nodes) (find-list (length nodes) (is-order n node edge) nodes)
+
+  pub nodes-rise : rising nodes ≡ true
+  unfolding nodes
+  nodes-rise = ascending-rises n node [] (unfold rising in refl) (λ t m. absurd (false≢true (unfold member in m)))
+
+  pub node-there : (t : ℕ) → t < n → node t ≡ true → member t nodes ≡ true
+  unfolding nodes
+  node-there t h k = ascending-has n node [] t (inl (h, k))
+
+  pub there-node : (t : ℕ) → member t nodes ≡ true → (t < n) × (node t ≡ true)
+  unfolding nodes
+  there-node t m = ⊎-elim (λ k. k) (λ (k : member t [] ≡ true). absurd (false≢true (unfold member in k))) (ascending-only n node [] t m)
+
+  -- an order that has every node once is over the nodes, and as long
+  pub once-over : (v : List ℕ) → once-each n node v ≡ true → all (λ t. member t nodes) v ≡ true
+  unfolding once-each
+  once-over v h = →all _ v (λ t m. let r = and→ (all→ _ v (and→ (and→ h .0) .1) t m) in node-there t (below→ (r .0)) (r .1))
+
+  pub once-length : (v : List ℕ) → once-each n node v ≡ true → length v ≡ length nodes
+  unfolding once-each
+  once-length v h =
+      let a : length v ≤ length nodes = pigeon v nodes (and→ (and→ h .0) .0) (all→ _ v (once-over v h)) in
+      let b : length nodes ≤ length v = pigeon nodes v (rising-distinct nodes nodes-rise) (λ t m. let r = there-node t m in implies→ (every→ _ (and→ h .1) t (r .0)) (r .1)) in
+      omega arith
+
+  module _ (edge : ℕ → ℕ → Bool) (ends : (a b : ℕ) → edge a b ≡ true → (a < n) × (node a ≡ true)) where
+    leads-over : (home : ℕ) (c : List ℕ) → leads edge home c ≡ true → all (λ t. member t nodes) c ≡ true
+    unfolding leads all
+    leads-over home [] h = refl
+    leads-over home (a ∷ []) h = let r = ends a home h in →and (node-there a (r .0) (r .1)) refl
+    leads-over home (a ∷ b ∷ c) h = let r = ends a b (and→ h .0) in →and (node-there a (r .0) (r .1)) (leads-over home (b ∷ c) (and→ h .1))
+
+    cycle-over : (c : List ℕ) → is-cycle edge c ≡ true → all (λ t. member t nodes) c ≡ true
+    unfolding is-cycle
+    cycle-over [] h = absurd (false≢true h)
+    cycle-over (a ∷ c) h = leads-over a (a ∷ c) (and→ h .1)
+
+    cycle-distinct : (c : List ℕ) → is-cycle edge c ≡ true → distinct c ≡ true
+    unfolding is-cycle distinct
+    cycle-distinct [] h = refl
+    cycle-distinct (a ∷ c) h =
+        →and (→fails (to-false _ (λ m. let z : a < a = below→ (all→ _ c (and→ (and→ (and→ h .0) .0) .1) a m) in omega arith))) (and→ (and→ h .0) .1)
+
+    cycle-length : (c : List ℕ) → is-cycle edge c ≡ true → length c < suc (length nodes)
+    cycle-length c h = let a : length c ≤ length nodes = pigeon c nodes (cycle-distinct c h) (all→ _ c (cycle-over c h)) in omega arith
+
+    -- there is a first shortest cycle, or none at all
+    pub first-cycle : ((c : List ℕ) × First shorter (is-cycle edge) c) ⊎ Never (is-cycle edge)
+    first-cycle = go (find-short (suc (length nodes)) (is-cycle edge) nodes) refl
+      where
+        go : (o : Option (List ℕ)) → find-short (suc (length nodes)) (is-cycle edge) nodes ≡ o → ((c : List ℕ) × First shorter (is-cycle edge) c) ⊎ Never (is-cycle edge)
+        go (some c) p = inl (c, short-first (suc (length nodes)) (is-cycle edge) nodes nodes-rise cycle-over cycle-length c p)
+        go none p = inr (short-none (suc (length nodes)) (is-cycle edge) nodes nodes-rise cycle-over cycle-length p)
+
+    pub judge-shows : (s : Shown) → judge-graph edge ≡ some s → Shows n node edge s
+    unfolding judge-graph shown-by is-order
+    judge-shows s e = go (find-short (suc (length nodes)) (is-cycle edge) nodes) (find-list (length nodes) (is-order n node edge) nodes) refl refl e
+      where
+        go : (o r : Option (List ℕ)) → find-short (suc (length nodes)) (is-cycle edge) nodes ≡ o
+            → find-list (length nodes) (is-order n node edge) nodes ≡ r → shown-by o r ≡ some s → Shows n node edge s
+        go (some c) r p q z =
+            let f : cycle c ≡ s = cc in
+            rw (← f) (shows-cycle (short-first (suc (length nodes)) (is-cycle edge) nodes nodes-rise cycle-over cycle-length c p))
+        go none (some w) p q z =
+            let f : order w ≡ s = cc in
+            rw (← f)
+            (shows-order (short-none (suc (length nodes)) (is-cycle edge) nodes nodes-rise cycle-over cycle-length p)
+            (find-first (length nodes) (is-order n node edge) nodes nodes-rise (λ v h. once-over v (and→ h .0)) (λ v h. once-length v (and→ h .0)) w q))
+        go none none p q z = let f : _≡_ {A = ℕ} 0 1 = cc in absurd (omega arith)

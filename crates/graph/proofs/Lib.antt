@@ -1,0 +1,11 @@
+pub mod Truth
+pub mod Places
+pub mod Dictionary
+pub mod Search
+pub mod Pigeon
+pub mod Judge
+pub mod Walks
+pub mod Greedy
+pub mod Shortest
+pub mod Only
+pub mod Exclude

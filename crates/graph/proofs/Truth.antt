@@ -1,0 +1,241 @@
+-- Laws of the tests of specs/Tests.antt. A test passes when it is `≡ true`.
+use mathlib.Core.Path.{_≡_, refl, sym, ap, subst, _∙_}
+use mathlib.Core.Bool.{Bool, true, false, true≢false, false≢true}
+use mathlib.Core.Logic.{_⊎_, inl, inr}
+use Prim.Native.Nat.{ℕ, zero, suc, _+_, _≤_, _<_}
+use native.Mathlib.Omega.{arith}
+use native.Mathlib.Nat.{not-suc-le-zero}
+use native.Mathlib.Numerals.{add-one}
+use borrow.Author.Tests.{ltb-true, ltb-false, leb-true, leb-false, eqb-true, eqb-false, lt-ltb, le-ltb, le-leb, lt-leb, eq-eqb, ne-eqb}
+use Rattle.graph.specs.Tests.{_is_, _below_, _upto_, _and_, _or_, _implies_, fails, if_then_else_, some, every, count, lowest, highest}
+
+-- a test passes or fails
+pub decide : (b : Bool) → (b ≡ true) ⊎ (b ≡ false)
+decide true = inl refl
+decide false = inr refl
+
+pub not-both : {b : Bool} → b ≡ true → b ≡ false → ⊥
+not-both p q = true≢false (sym p ∙ q)
+
+pub to-false : (b : Bool) → (b ≡ true → ⊥) → b ≡ false
+to-false true f = absurd (f refl)
+to-false false f = refl
+
+pub to-true : (b : Bool) → (b ≡ false → ⊥) → b ≡ true
+to-true true f = refl
+to-true false f = absurd (f refl)
+
+-- the connectives
+pub and→ : {a b : Bool} → (a and b) ≡ true → (a ≡ true) × (b ≡ true)
+unfolding _and_
+and→ {a = true} {b} h = (refl, h)
+and→ {a = false} {b} h = absurd (false≢true h)
+
+pub →and : {a b : Bool} → a ≡ true → b ≡ true → (a and b) ≡ true
+unfolding _and_
+→and {a = true} {b} p q = q
+→and {a = false} {b} p q = p
+
+pub or→ : {a b : Bool} → (a or b) ≡ true → (a ≡ true) ⊎ (b ≡ true)
+unfolding _or_
+or→ {a = true} {b} h = inl refl
+or→ {a = false} {b} h = inr h
+
+pub →or-left : {a : Bool} (b : Bool) → a ≡ true → (a or b) ≡ true
+unfolding _or_
+→or-left {a = true} b h = refl
+→or-left {a = false} b h = absurd (false≢true h)
+
+pub →or-right : (a : Bool) {b : Bool} → b ≡ true → (a or b) ≡ true
+unfolding _or_
+→or-right true h = refl
+→or-right false h = h
+
+pub or-no : (a : Bool) {b : Bool} → b ≡ false → (a or b) ≡ a
+unfolding _or_
+or-no true h = refl
+or-no false h = h
+
+pub and-no-left : {a : Bool} (b : Bool) → a ≡ false → (a and b) ≡ false
+unfolding _and_
+and-no-left {a = true} b h = absurd (true≢false h)
+and-no-left {a = false} b h = refl
+
+pub and-no-right : (a : Bool) {b : Bool} → b ≡ false → (a and b) ≡ false
+unfolding _and_
+and-no-right true h = h
+and-no-right false h = refl
+
+pub fails→ : {a : Bool} → fails a ≡ true → a ≡ false
+unfolding fails
+fails→ {a = true} h = absurd (false≢true h)
+fails→ {a = false} h = refl
+
+pub →fails : {a : Bool} → a ≡ false → fails a ≡ true
+unfolding fails
+→fails {a = true} h = absurd (true≢false h)
+→fails {a = false} h = refl
+
+pub implies→ : {a b : Bool} → (a implies b) ≡ true → a ≡ true → b ≡ true
+unfolding _implies_
+implies→ {a = true} {b} h p = h
+implies→ {a = false} {b} h p = absurd (false≢true p)
+
+pub →implies : {a b : Bool} → (a ≡ true → b ≡ true) → (a implies b) ≡ true
+unfolding _implies_
+→implies {a = true} {b} f = f refl
+→implies {a = false} {b} f = refl
+
+-- numbers
+pub is→ : {m n : ℕ} → (m is n) ≡ true → m ≡ n
+unfolding _is_
+is→ {m} {n} h = eqb-true m n h
+
+pub →is : {m n : ℕ} → m ≡ n → (m is n) ≡ true
+unfolding _is_
+→is {m} {n} h = eq-eqb m n h
+
+pub isnt→ : {m n : ℕ} → (m is n) ≡ false → m ≡ n → ⊥
+unfolding _is_
+isnt→ {m} {n} h = eqb-false m n h
+
+pub →isnt : {m n : ℕ} → (m ≡ n → ⊥) → (m is n) ≡ false
+unfolding _is_
+→isnt {m} {n} h = ne-eqb m n h
+
+pub below→ : {m n : ℕ} → (m below n) ≡ true → m < n
+unfolding _below_
+below→ {m} {n} h = ltb-true m n h
+
+pub →below : {m n : ℕ} → m < n → (m below n) ≡ true
+unfolding _below_
+→below {m} {n} h = lt-ltb m n h
+
+pub not-below→ : {m n : ℕ} → (m below n) ≡ false → n ≤ m
+unfolding _below_
+not-below→ {m} {n} h = ltb-false m n h
+
+pub →not-below : {m n : ℕ} → n ≤ m → (m below n) ≡ false
+unfolding _below_
+→not-below {m} {n} h = le-ltb m n h
+
+pub upto→ : {m n : ℕ} → (m upto n) ≡ true → m ≤ n
+unfolding _upto_
+upto→ {m} {n} h = leb-true m n h
+
+pub →upto : {m n : ℕ} → m ≤ n → (m upto n) ≡ true
+unfolding _upto_
+→upto {m} {n} h = le-leb m n h
+
+-- the choice
+module _ {ℓ} {A : Type ℓ} where
+  pub if-true : {b : Bool} (x y : A) → b ≡ true → (if b then x else y) ≡ x
+  unfolding if_then_else_
+  if-true {b = true} x y h = refl
+  if-true {b = false} x y h = absurd (false≢true h)
+
+  pub if-false : {b : Bool} (x y : A) → b ≡ false → (if b then x else y) ≡ y
+  unfolding if_then_else_
+  if-false {b = true} x y h = absurd (true≢false h)
+  if-false {b = false} x y h = refl
+
+-- questions over the numbers below n
+pub some→ : {n : ℕ} {p : ℕ → Bool} → some n p ≡ true → (i : ℕ) × (i < n) × (p i ≡ true)
+unfolding some
+some→ {n = zero} {p} h = absurd (false≢true h)
+some→ {n = suc n} {p} h = go (λ k. some→ k) (or→ h)
+  where
+    go : (some n p ≡ true → (i : ℕ) × (i < n) × (p i ≡ true)) → (some n p ≡ true) ⊎ (p n ≡ true) → (i : ℕ) × (i < suc n) × (p i ≡ true)
+    go rec (inl k) = let r = rec k in (r .0, omega (arith, r .1), r .2)
+    go rec (inr k) = (n, omega arith, k)
+
+pub →some : {n : ℕ} (p : ℕ → Bool) (i : ℕ) → i < n → p i ≡ true → some n p ≡ true
+unfolding some
+→some {n = zero} p i h q = absurd (not-suc-le-zero h)
+→some {n = suc n} p i h q = go (decide (i below n)) (λ k. →some p i k q)
+  where
+    go : ((i below n) ≡ true) ⊎ ((i below n) ≡ false) → (i < n → some n p ≡ true) → (some n p or p n) ≡ true
+    go (inl k) rec = →or-left (p n) (rec (below→ k))
+    go (inr k) rec = let e : i ≡ n = omega (arith, not-below→ k) in →or-right (some n p) (rw e at q)
+
+pub none→ : {n : ℕ} (p : ℕ → Bool) → some n p ≡ false → (i : ℕ) → i < n → p i ≡ false
+none→ {n} p h i k = to-false (p i) (λ q. not-both (→some p i k q) h)
+
+pub →none : {n : ℕ} (p : ℕ → Bool) → ((i : ℕ) → i < n → p i ≡ false) → some n p ≡ false
+→none {n} p f = to-false (some n p) (λ h. let r = some→ h in not-both (r .2) (f (r .0) (r .1)))
+
+pub every→ : {n : ℕ} (p : ℕ → Bool) → every n p ≡ true → (i : ℕ) → i < n → p i ≡ true
+unfolding every
+every→ {n = zero} p h i k = absurd (not-suc-le-zero k)
+every→ {n = suc n} p h i k = go (decide (i below n)) (and→ h .1) (λ m. every→ {n = n} p (and→ h .0) i m)
+  where
+    go : ((i below n) ≡ true) ⊎ ((i below n) ≡ false) → p n ≡ true → (i < n → p i ≡ true) → p i ≡ true
+    go (inl m) q rec = rec (below→ m)
+    go (inr m) q rec = let e : i ≡ n = omega (arith, not-below→ m) in rw e q
+
+pub →every : {n : ℕ} (p : ℕ → Bool) → ((i : ℕ) → i < n → p i ≡ true) → every n p ≡ true
+unfolding every
+→every {n = zero} p f = refl
+→every {n = suc n} p f = →and (→every {n = n} p (λ i h. f i (omega arith))) (f n (omega arith))
+
+-- the lowest: where one passes, it is below n and passes, and nothing below it does
+pub lowest-is : {n : ℕ} (p : ℕ → Bool) → some n p ≡ true → (lowest n p < n) × (p (lowest n p) ≡ true) × ((i : ℕ) → i < lowest n p → p i ≡ false)
+unfolding some lowest
+lowest-is {n = zero} p h = absurd (false≢true h)
+lowest-is {n = suc n} p h = go (decide (some n p)) (λ k. lowest-is {n = n} p k) (or→ h)
+  where
+    go : (some n p ≡ true) ⊎ (some n p ≡ false)
+        → (some n p ≡ true → (lowest n p < n) × (p (lowest n p) ≡ true) × ((i : ℕ) → i < lowest n p → p i ≡ false))
+        → (some n p ≡ true) ⊎ (p n ≡ true)
+        → (lowest (suc n) p < suc n) × (p (lowest (suc n) p) ≡ true) × ((i : ℕ) → i < lowest (suc n) p → p i ≡ false)
+    go (inl k) rec c =
+        rw (if-true (lowest n p) (if p n then n else suc n) k)
+        (let r = rec k in (omega (arith, r .0), r .1, r .2))
+    go (inr k) rec (inl c) = absurd (not-both c k)
+    go (inr k) rec (inr c) =
+        rw (if-false (lowest n p) (if p n then n else suc n) k, if-true n (suc n) c)
+        (omega arith, c, none→ p k)
+
+pub lowest-none : {n : ℕ} (p : ℕ → Bool) → some n p ≡ false → lowest n p ≡ n
+unfolding some lowest
+lowest-none {n = zero} p h = refl
+lowest-none {n = suc n} p h =
+    let a : some n p ≡ false = →none p (λ (i : ℕ) (k : i < n). none→ {n = suc n} p h i (omega arith)) in
+    let b : p n ≡ false = none→ {n = suc n} p h n (omega arith) in
+    if-false (lowest n p) (if p n then n else suc n) a ∙ if-false n (suc n) b
+
+-- a number that passes while nothing below it does is the lowest
+pub lowest-at : {n : ℕ} (p : ℕ → Bool) (i : ℕ) → i < n → p i ≡ true → ((j : ℕ) → j < i → p j ≡ false) → lowest n p ≡ i
+lowest-at {n} p i h q f = go (decide (lowest n p below i)) (decide (i below lowest n p))
+  where
+    found : (lowest n p < n) × (p (lowest n p) ≡ true) × ((j : ℕ) → j < lowest n p → p j ≡ false)
+    found = lowest-is p (→some p i h q)
+
+    go : ((lowest n p below i) ≡ true) ⊎ ((lowest n p below i) ≡ false) → ((i below lowest n p) ≡ true) ⊎ ((i below lowest n p) ≡ false) → lowest n p ≡ i
+    go (inl a) b = absurd (not-both (found .1) (f (lowest n p) (below→ a)))
+    go (inr a) (inl b) = absurd (not-both q (found .2 i (below→ b)))
+    go (inr a) (inr b) = omega (arith, not-below→ a, not-below→ b)
+
+pub lowest-le : {n : ℕ} (p : ℕ → Bool) (i : ℕ) → i < n → p i ≡ true → lowest n p ≤ i
+lowest-le {n} p i h q = go (decide (i below lowest n p))
+  where
+    go : ((i below lowest n p) ≡ true) ⊎ ((i below lowest n p) ≡ false) → lowest n p ≤ i
+    go (inl k) = absurd (not-both q (lowest-is p (→some p i h q) .2 i (below→ k)))
+    go (inr k) = not-below→ k
+
+-- one number more
+pub count-yes : (i : ℕ) (p : ℕ → Bool) → p i ≡ true → count (i + 1) p ≡ suc (count i p)
+unfolding count
+count-yes i p h = rw (add-one i) (if-true (suc (count i p)) (count i p) h)
+
+pub count-no : (i : ℕ) (p : ℕ → Bool) → p i ≡ false → count (i + 1) p ≡ count i p
+unfolding count
+count-no i p h = rw (add-one i) (if-false (suc (count i p)) (count i p) h)
+
+pub some-next : (i : ℕ) (p : ℕ → Bool) → some (i + 1) p ≡ (some i p or p i)
+unfolding some
+some-next i p = rw (add-one i) refl
+
+pub every-next : (i : ℕ) (p : ℕ → Bool) → every (i + 1) p ≡ (every i p and p i)
+unfolding every
+every-next i p = rw (add-one i) refl
