@@ -1,23 +1,23 @@
 -- To place, again and again, the lowest node whose predecessors are all placed gives the first order in dictionary order; and where
 -- that comes to a stop there is a cycle. So every graph is shown one way or the other.
-use mathlib.Core.Path.{_≡_, refl, sym, ap, subst, _∙_}
-use mathlib.Core.Bool.{Bool, true, false, true≢false, false≢true}
+use mathlib.Core.Path.{_≡_, refl, sym, subst, _∙_}
+use mathlib.Core.Bool.{Bool, true, false, false≢true}
 use mathlib.Core.Logic.{_⊎_, inl, inr, ⊎-elim}
-use mathlib.Core.List.{List, [], _∷_, _++_}
+use mathlib.Core.List.{List, [], _∷_}
 use Prim.Native.Nat.{ℕ, zero, suc, _+_, _≤_, _<_}
 use native.Mathlib.Omega.{arith}
 use lib.ListN.{length}
-use Rattle.graph.specs.Tests.{_is_, _below_, _and_, _or_, _implies_, fails, some, every, lowest}
-use Rattle.graph.specs.Lists.{member, all, distinct, before}
+use Rattle.graph.specs.Tests.{_is_, _below_, _and_, _implies_, fails, some, every, lowest}
+use Rattle.graph.specs.Lists.{member, distinct, before}
 use Rattle.graph.specs.First.{dictionary, shorter, First, Never}
 use Rattle.graph.specs.Order.{once-each, keeps, is-order}
 use Rattle.graph.specs.Cycle.{is-cycle}
 use Rattle.graph.specs.Shows.{Shown, order, cycle, Shows, shows-order, shows-cycle}
-use Rattle.graph.proofs.Truth.{decide, not-both, to-false, to-true, and→, →and, →fails, fails→, →implies, implies→, is→, →is, isnt→, below→, →below, not-below→, some→, →some, none→, every→, →every, lowest-is, lowest-le}
+use Rattle.graph.proofs.Truth.{decide, not-both, to-false, to-true, and→, →and, →fails, fails→, →implies, implies→, is→, isnt→, below→, →below, some→, none→, every→, →every, lowest-is, lowest-le}
 use Rattle.graph.proofs.Places.{member→, all→, →all, member-head, member-tail, distinct→, before→, before-head, before-tail, none-before-head}
 use Rattle.graph.proofs.Dictionary.{dictionary-not}
 use Rattle.graph.proofs.Pigeon.{pigeon}
-use Rattle.graph.proofs.Judge.{nodes, node-there, there-node, first-cycle}
+use Rattle.graph.proofs.Judge.{nodes, node-there, first-cycle}
 use Rattle.graph.proofs.Walks.{stuck-cycle}
 
 module _ (n : ℕ) (node : ℕ → Bool) (edge : ℕ → ℕ → Bool) where

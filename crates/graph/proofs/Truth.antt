@@ -1,5 +1,5 @@
 -- Laws of the tests of specs/Tests.antt. A test passes when it is `≡ true`.
-use mathlib.Core.Path.{_≡_, refl, sym, ap, subst, _∙_}
+use mathlib.Core.Path.{_≡_, refl, sym, _∙_}
 use mathlib.Core.Bool.{Bool, true, false, true≢false, false≢true}
 use mathlib.Core.Logic.{_⊎_, inl, inr}
 use Prim.Native.Nat.{ℕ, zero, suc, _+_, _≤_, _<_}
@@ -7,7 +7,7 @@ use native.Mathlib.Omega.{arith}
 use native.Mathlib.Nat.{not-suc-le-zero}
 use native.Mathlib.Numerals.{add-one}
 use borrow.Author.Tests.{ltb-true, ltb-false, leb-true, leb-false, eqb-true, eqb-false, lt-ltb, le-ltb, le-leb, lt-leb, eq-eqb, ne-eqb}
-use Rattle.graph.specs.Tests.{_is_, _below_, _upto_, _and_, _or_, _implies_, fails, if_then_else_, some, every, count, lowest, highest}
+use Rattle.graph.specs.Tests.{_is_, _below_, _upto_, _and_, _or_, _implies_, fails, if_then_else_, some, every, count, lowest}
 
 -- a test passes or fails
 pub decide : (b : Bool) → (b ≡ true) ⊎ (b ≡ false)
@@ -126,6 +126,14 @@ upto→ {m} {n} h = leb-true m n h
 pub →upto : {m n : ℕ} → m ≤ n → (m upto n) ≡ true
 unfolding _upto_
 →upto {m} {n} h = le-leb m n h
+
+pub not-upto→ : {m n : ℕ} → (m upto n) ≡ false → n < m
+unfolding _upto_
+not-upto→ {m} {n} h = leb-false m n h
+
+pub →not-upto : {m n : ℕ} → n < m → (m upto n) ≡ false
+unfolding _upto_
+→not-upto {m} {n} h = lt-leb m n h
 
 -- the choice
 module _ {ℓ} {A : Type ℓ} where

@@ -1,0 +1,10 @@
+-- Laws of the definitions, and the theorems over them.
+pub mod WellFormed
+pub mod Versions
+pub mod Finds
+pub mod Center
+pub mod Judge
+pub mod Some
+pub mod Only
+pub mod Listing
+pub mod Samples
