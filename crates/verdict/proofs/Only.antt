@@ -6,7 +6,7 @@ use Prim.Native.Nat.{ℕ}
 use native.Mathlib.Omega.{arith}
 use Rattle.graph.specs.First.{dictionary, First}
 use Rattle.graph.specs.Shows.{order}
-use Rattle.verdict.specs.Refusal.{Refusal}
+use Rattle.verdict.specs.Refusal.{Refusal, taken, refused}
 use Rattle.verdict.specs.Clean.{Fault, Cleanness, clean, unclean, cleanness}
 use Rattle.verdict.specs.Answer.{Answer, shown, unclean-by}
 use Rattle.verdict.specs.Conflict.{Conflict, conflict}
@@ -64,17 +64,18 @@ module _ {most : ℕ} {log : List ℕ} where
   next-one (next-none n) (next f) = absurd (never-first n f)
   next-one (next-none n) (next-none m) = refl
 
--- what a call answers and leaves is one, where its verdict allows one answer
-pub call-one : {A R : Type 0} {refusal : Refusal} {away : ℕ → ℕ → R} {verdict : A → Type 0} {says : A → R} {leaves : A → List (List ℕ)} {before : List (List ℕ)}
-    → ((a b : A) → verdict a → verdict b → a ≡ b) → {r s : R} {after after′ : List (List ℕ)}
-    → Call refusal away verdict says leaves before r after → Call refusal away verdict says leaves before s after′ → (r ≡ s) × (after ≡ after′)
-call-one {away} one (turned-away n p e x y) (turned-away m q g u v) =
+-- what a call answers and leaves is one, where one refusal is given and its verdict allows one answer
+pub call-one : {A R : Type 0} {given : Refusal → Type 0} {away : ℕ → ℕ → R} {verdict : A → Type 0} {says : A → R} {leaves : A → List (List ℕ)} {before : List (List ℕ)}
+    → ((f g : Refusal) → given f → given g → f ≡ g) → ((a b : A) → verdict a → verdict b → a ≡ b) → {r s : R} {after after′ : List (List ℕ)}
+    → Call given away verdict says leaves before r after → Call given away verdict says leaves before s after′ → (r ≡ s) × (after ≡ after′)
+call-one {away} sole one (turned-away n p e x y) (turned-away m q g u v) =
+    let h : refused n p ≡ refused m q = sole _ _ e g in
     let i : n ≡ m = cc in
     let j : p ≡ q = cc in
     (x ∙ ap (λ (z : ℕ). away z p) i ∙ ap (away m) j ∙ sym u, y ∙ sym v)
-call-one one (turned-away n p e x y) (answered a g h u v) = let k : _≡_ {A = ℕ} 0 1 = cc in absurd (omega arith)
-call-one one (answered a g h u v) (turned-away n p e x y) = let k : _≡_ {A = ℕ} 0 1 = cc in absurd (omega arith)
-call-one {says} {leaves} one (answered a g h u v) (answered b g′ h′ u′ v′) =
+call-one sole one (turned-away n p e x y) (answered a g h u v) = let i : refused n p ≡ taken = sole _ _ e g in let k : _≡_ {A = ℕ} 0 1 = cc in absurd (omega arith)
+call-one sole one (answered a g h u v) (turned-away n p e x y) = let i : refused n p ≡ taken = sole _ _ e g in let k : _≡_ {A = ℕ} 0 1 = cc in absurd (omega arith)
+call-one {says} {leaves} sole one (answered a g h u v) (answered b g′ h′ u′ v′) =
     let z : a ≡ b = one a b h h′ in
     (u ∙ ap says z ∙ sym u′, v ∙ ap leaves z ∙ sym v′)
 
@@ -87,15 +88,15 @@ buffers-one e = (cc, cc)
 
 module _ (log : List ℕ) {work : List ℕ} where
   pub clean-call-one : {r s : CleanAnswer} {v w : List ℕ} → CleanCall log work r v → CleanCall log work s w → (r ≡ s) × (v ≡ w)
-  clean-call-one p q = let e = call-one (λ a b h k. h ∙ sym k) p q in (e .0, buffer-one (e .1))
+  clean-call-one p q = let e = call-one (λ f g h k. h ∙ sym k) (λ a b h k. h ∙ sym k) p q in (e .0, buffer-one (e .1))
 
   pub snapshot-call-one : {r s : SnapshotAnswer} {v w : List ℕ} → SnapshotCall log work r v → SnapshotCall log work s w → (r ≡ s) × (v ≡ w)
-  snapshot-call-one p q = let e = call-one (λ a b h k. h ∙ sym k) p q in (e .0, buffer-one (e .1))
+  snapshot-call-one p q = let e = call-one (λ f g h k. h ∙ sym k) (λ a b h k. h ∙ sym k) p q in (e .0, buffer-one (e .1))
 
 -- the calls with a witness, where the verdict allows one answer
 pub witness-call-one : (refusal : Refusal) {verdict : Answer → Type 0} {work witness : List ℕ} → ((a b : Answer) → verdict a → verdict b → a ≡ b)
     → {r s : CodeAnswer} {v w x y : List ℕ} → WitnessCall refusal verdict work witness r v x → WitnessCall refusal verdict work witness s w y → (r ≡ s) × (v ≡ w) × (x ≡ y)
-witness-call-one refusal one p q = let e = call-one one p q in let f = buffers-one (e .1) in (e .0, f .0, f .1)
+witness-call-one refusal one p q = let e = call-one (λ f g h k. h ∙ sym k) one p q in let f = buffers-one (e .1) in (e .0, f .0, f .1)
 
 module _ (log : List ℕ) {work witness : List ℕ} {r s : CodeAnswer} {v w x y : List ℕ} where
   pub conflict-call-one : ConflictCall log work witness r v x → ConflictCall log work witness s w y → (r ≡ s) × (v ≡ w) × (x ≡ y)

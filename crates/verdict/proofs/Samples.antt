@@ -14,7 +14,7 @@ use Rattle.graph.specs.Cycle.{leads, is-cycle}
 use Rattle.graph.specs.Shows.{order, cycle}
 use Rattle.verdict.specs.Limits.{transactions}
 use Rattle.verdict.specs.Log.{steps, kind, tx, obj, src, begins, reads, writes, commits, aborts, committed, aborted, writer, write-one-object, begin-step, commit-step, commits-writer, committed-count}
-use Rattle.verdict.specs.Refusal.{Refusal, taken, refused, _at_when_, _else-try_, tried, object-allowed, source-allowed, begun, ended, wrote, step-refusal, open-refusal, log-refusal}
+use Rattle.verdict.specs.Refusal.{Refusal, taken, refused, _at_when_, _else-try_, tried, object-allowed, source-allowed, begun, ended, wrote, range-refusal, life-refusal, source-refusal, step-refusal, open-refusal, log-refusal}
 use Rattle.verdict.specs.Clean.{Fault, aborted-at, unfinal-at, Cleanness, clean, unclean, judged, judged-other, writes-later, final-source, faulty-read, is-clean, fault-at, cleanness}
 use Rattle.verdict.specs.Snapshot.{Snapshot, snapshot, read-at, write-at-with, snapshot-step, last-committed, wrong-read, overlap, clash, wrong-commit, wrong-step, snapshot-fault, snapshot-verdict}
 use Rattle.verdict.specs.Answer.{Answer, shown, unclean-by}
@@ -159,7 +159,7 @@ unfolding b r w c a sample ordered ring no-order fault 1′ 12′ 21′ 123′ 1
     _is_ _below_ _upto_ _and_ _or_ _implies_ fails if_then_else_ some every count lowest highest
     member all distinct before zeros entries dictionary shorter later once-each keeps is-order leads is-cycle
     steps kind tx obj src begins reads writes commits aborts committed aborted writer write-one-object begin-step commit-step commits-writer committed-count
-    _at_when_ _else-try_ tried object-allowed source-allowed begun ended wrote step-refusal open-refusal log-refusal
+    _at_when_ _else-try_ tried object-allowed source-allowed begun ended wrote range-refusal life-refusal source-refusal step-refusal open-refusal log-refusal
     judged judged-other writes-later final-source faulty-read is-clean fault-at cleanness
     snapshot-step last-committed wrong-read overlap clash wrong-commit wrong-step snapshot-fault snapshot-verdict
     touches meet conflict-edge after next-commit next-version writer-to-next source-to-reader reader-to-next version-edge

@@ -20,14 +20,14 @@ use Rattle.verdict.specs.declared.SnapshotAnswer.the-variants as snapsho
 use Rattle.verdict.specs.declared.Answer.{Answer}
 use Rattle.verdict.specs.declared.Answer.the-variants as the-answer
 
--- A call with the lent buffers `before`, which leaves them as `after` and answers r.
+-- A call with the lent buffers `before`, which leaves them as `after` and answers r. `given` says which refusal applies, if any.
 -- Turned away: the number and the place, and every lent entry is as before.
 -- Answered: what the verdict allows, as the code says it, and in the buffers just what belongs to that answer
-pub data Call {A R : Type 0} (refusal : Refusal) (away : ℕ → ℕ → R) (verdict : A → Type 0) (says : A → R) (leaves : A → List (List ℕ))
+pub data Call {A R : Type 0} (given : Refusal → Type 0) (away : ℕ → ℕ → R) (verdict : A → Type 0) (says : A → R) (leaves : A → List (List ℕ))
     (before : List (List ℕ)) (r : R) (after : List (List ℕ)) : Type 0 where
-  turned-away : (number place : ℕ) → refusal ≡ refused number place → r ≡ away number place → after ≡ before
-      → Call refusal away verdict says leaves before r after
-  answered : (a : A) → refusal ≡ taken → verdict a → r ≡ says a → after ≡ leaves a → Call refusal away verdict says leaves before r after
+  turned-away : (number place : ℕ) → given (refused number place) → r ≡ away number place → after ≡ before
+      → Call given away verdict says leaves before r after
+  answered : (a : A) → given taken → verdict a → r ≡ says a → after ≡ leaves a → Call given away verdict says leaves before r after
 
 -- the work area all 0; and a witness first in its buffer, the remaining entries 0
 unfoldable pub leaves-work : {A : Type 0} → A → List (List ℕ)
@@ -39,18 +39,18 @@ leaves-witness a = zeros work-bytes ∷ entries witness-entries (witness a) ∷ 
 -- the entry points, each by its own refusal and its own verdict
 abbrev pub CleanCall : (log work : List ℕ) → CleanAnswer → (work′ : List ℕ) → Type 0
 CleanCall log work r work′ =
-    Call (work-refusal work else-try log-refusal log) clean-answer.Refused (λ (a : Cleanness). a ≡ cleanness log) said-clean leaves-work
+    Call (λ f. f ≡ work-refusal work else-try log-refusal log) clean-answer.Refused (λ (a : Cleanness). a ≡ cleanness log) said-clean leaves-work
     (work ∷ []) r (work′ ∷ [])
 
 abbrev pub SnapshotCall : (log work : List ℕ) → SnapshotAnswer → (work′ : List ℕ) → Type 0
 SnapshotCall log work r work′ =
-    Call (work-refusal work else-try log-refusal log) snapshot-answer.Refused (λ (a : Snapshot). a ≡ snapshot-verdict transactions log) said-snapshot leaves-work
+    Call (λ f. f ≡ work-refusal work else-try log-refusal log) snapshot-answer.Refused (λ (a : Snapshot). a ≡ snapshot-verdict transactions log) said-snapshot leaves-work
     (work ∷ []) r (work′ ∷ [])
 
 -- a call with a witness
 abbrev pub WitnessCall : Refusal → (answer.Answer → Type 0) → (work witness : List ℕ) → Answer → (work′ witness′ : List ℕ) → Type 0
 WitnessCall refusal verdict work witness r work′ witness′ =
-    Call (work-refusal work else-try witness-refusal witness else-try refusal) the-answer.Refused verdict said leaves-witness
+    Call (λ f. f ≡ work-refusal work else-try witness-refusal witness else-try refusal) the-answer.Refused verdict said leaves-witness
     (work ∷ witness ∷ []) r (work′ ∷ witness′ ∷ [])
 
 abbrev pub ConflictCall : (log work witness : List ℕ) → Answer → (work′ witness′ : List ℕ) → Type 0

@@ -35,6 +35,14 @@ object-allowed k x = if k is 2 or k is 3 then x below objects else x is 0
 unfoldable pub source-allowed : ℕ → ℕ → Bool
 source-allowed k s = if k is 2 then s upto transactions else s is 0
 
+-- 3 to 6: the numbers of a step at this place, of kind k, with transaction t, object x and source s
+unfoldable pub range-refusal : ℕ → ℕ → ℕ → ℕ → ℕ → Refusal
+range-refusal place k t x s =
+    3 at place when fails (1 upto k and k upto 5)
+    else-try 4 at place when fails (1 upto t and t upto transactions)
+    else-try 5 at place when fails (object-allowed k x)
+    else-try 6 at place when fails (source-allowed k s)
+
 module _ (log : List ℕ) where
   -- before step i: t has begun, t has ended, t wrote x
   unfoldable pub begun : ℕ → ℕ → Bool
@@ -46,21 +54,28 @@ module _ (log : List ℕ) where
   unfoldable pub wrote : ℕ → ℕ → ℕ → Bool
   wrote i t x = some i (writes log t x)
 
-  -- 3 to 10, all of them on one step
-  unfoldable pub step-refusal : ℕ → Refusal
-  step-refusal i =
+  -- 7 and 8: a begin of what has begun before; another step of what has not begun, or has ended
+  unfoldable pub life-refusal : ℕ → Refusal
+  life-refusal i =
+      let k = kind log i in
+      let t = tx log i in
+      7 at i when k is 1 and begun i t
+      else-try 8 at i when fails (k is 1) and (fails (begun i t) or ended i t)
+
+  -- 9 and 10: a read whose source is not 0 and wrote the object in no earlier step;
+  -- a read, after the reader's own write of the object, with a source other than itself
+  unfoldable pub source-refusal : ℕ → Refusal
+  source-refusal i =
       let k = kind log i in
       let t = tx log i in
       let x = obj log i in
       let s = src log i in
-      3 at i when fails (1 upto k and k upto 5)
-      else-try 4 at i when fails (1 upto t and t upto transactions)
-      else-try 5 at i when fails (object-allowed k x)
-      else-try 6 at i when fails (source-allowed k s)
-      else-try 7 at i when k is 1 and begun i t
-      else-try 8 at i when fails (k is 1) and (fails (begun i t) or ended i t)
-      else-try 9 at i when k is 2 and fails (s is 0) and fails (wrote i s x)
+      9 at i when k is 2 and fails (s is 0) and fails (wrote i s x)
       else-try 10 at i when k is 2 and wrote i t x and fails (s is t)
+
+  -- 3 to 10, all of them on one step
+  unfoldable pub step-refusal : ℕ → Refusal
+  step-refusal i = range-refusal i (kind log i) (tx log i) (obj log i) (src log i) else-try life-refusal i else-try source-refusal i
 
   -- 11, for one transaction: begun and not ended
   unfoldable pub open-refusal : ℕ → Refusal
