@@ -76,6 +76,16 @@ unfolding fails
 →fails {a = true} h = absurd (true≢false h)
 →fails {a = false} h = refl
 
+pub not-fails→ : {a : Bool} → fails a ≡ false → a ≡ true
+unfolding fails
+not-fails→ {a = true} h = refl
+not-fails→ {a = false} h = absurd (true≢false h)
+
+pub →not-fails : {a : Bool} → a ≡ true → fails a ≡ false
+unfolding fails
+→not-fails {a = true} h = refl
+→not-fails {a = false} h = absurd (false≢true h)
+
 pub implies→ : {a b : Bool} → (a implies b) ≡ true → a ≡ true → b ≡ true
 unfolding _implies_
 implies→ {a = true} {b} h p = h
@@ -172,6 +182,17 @@ none→ {n} p h i k = to-false (p i) (λ q. not-both (→some p i k q) h)
 pub →none : {n : ℕ} (p : ℕ → Bool) → ((i : ℕ) → i < n → p i ≡ false) → some n p ≡ false
 →none {n} p f = to-false (some n p) (λ h. let r = some→ h in not-both (r .2) (f (r .0) (r .1)))
 
+-- .. one test or another
+pub some-either : (n : ℕ) (p q : ℕ → Bool) → some n p ≡ true → some n (λ i. p i or q i) ≡ true
+some-either n p q h = let r = some→ h in →some _ (r .0) (r .1) (→or-left _ (r .2))
+
+pub some-other : (n : ℕ) (p q : ℕ → Bool) → some n p ≡ false → some n (λ i. p i or q i) ≡ some n q
+some-other n p q h = go (decide (some n q))
+  where
+    go : (some n q ≡ true) ⊎ (some n q ≡ false) → some n (λ i. p i or q i) ≡ some n q
+    go (inl k) = let r = some→ k in →some _ (r .0) (r .1) (→or-right _ (r .2)) ∙ sym k
+    go (inr k) = →none _ (λ (i : ℕ) (l : i < n). or-no (p i) (none→ q k i l) ∙ none→ p h i l) ∙ sym k
+
 pub every→ : {n : ℕ} (p : ℕ → Bool) → every n p ≡ true → (i : ℕ) → i < n → p i ≡ true
 unfolding every
 every→ {n = zero} p h i k = absurd (not-suc-le-zero k)
@@ -243,6 +264,9 @@ count-no i p h = rw (add-one i) (if-false (suc (count i p)) (count i p) h)
 pub some-next : (i : ℕ) (p : ℕ → Bool) → some (i + 1) p ≡ (some i p or p i)
 unfolding some
 some-next i p = rw (add-one i) refl
+
+pub none-next : (i : ℕ) (p : ℕ → Bool) → some i p ≡ false → p i ≡ false → some (i + 1) p ≡ false
+none-next i p h k = some-next i p ∙ or-no (some i p) k ∙ h
 
 pub every-next : (i : ℕ) (p : ℕ → Bool) → every (i + 1) p ≡ (every i p and p i)
 unfolding every

@@ -1,4 +1,6 @@
 -- Laws of the definitions, and the theorems over them.
+pub mod Refused
+pub mod Steps
 pub mod WellFormed
 pub mod Versions
 pub mod Finds

@@ -13,3 +13,4 @@ pub mod Next
 pub mod Listing
 pub mod Said
 pub mod Call
+pub mod Walk

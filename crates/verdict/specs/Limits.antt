@@ -1,12 +1,12 @@
 -- The limits of transactions, objects, logs and lent buffers. Each is written here and, in the code, at the type that it limits.
 use Prim.Native.Nat.{ℕ}
 use Rattle.graph.specs.Tests.{_below_, _upto_, _and_, if_then_else_}
-use Rattle.verdict.specs.declared.MadeTransaction.{MadeTransaction}
-use Rattle.verdict.specs.declared.MadeTransaction.the-variants as made-transaction
-use Rattle.verdict.specs.declared.MadeObject.{MadeObject}
-use Rattle.verdict.specs.declared.MadeObject.the-variants as made-object
-use Rattle.verdict.specs.declared.MadeLog.{MadeLog}
-use Rattle.verdict.specs.declared.MadeLog.the-variants as made-log
+use Rattle.verdict.specs.declared.limits.MadeTransaction.{MadeTransaction}
+use Rattle.verdict.specs.declared.limits.MadeTransaction.the-variants as made-transaction
+use Rattle.verdict.specs.declared.limits.MadeObject.{MadeObject}
+use Rattle.verdict.specs.declared.limits.MadeObject.the-variants as made-object
+use Rattle.verdict.specs.declared.limits.MadeLog.{MadeLog}
+use Rattle.verdict.specs.declared.limits.MadeLog.the-variants as made-log
 
 -- transactions are 1..128
 abbrev pub transactions : ℕ

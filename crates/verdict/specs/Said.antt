@@ -3,9 +3,12 @@ use mathlib.Core.List.{List, []}
 use Prim.Native.Nat.{ℕ}
 use lib.ListN.{length}
 use Rattle.graph.specs.Shows.{order, cycle}
+use Rattle.verdict.specs.Refusal.{Refusal, taken, refused}
 use Rattle.verdict.specs.Clean as clean
 use Rattle.verdict.specs.Snapshot as snapshot
 use Rattle.verdict.specs.Answer as answer
+use Rattle.verdict.specs.declared.Checked.{Checked}
+use Rattle.verdict.specs.declared.Checked.the-variants as checked
 use Rattle.verdict.specs.declared.Fault.{Fault}
 use Rattle.verdict.specs.declared.Fault.the-variants as fault
 use Rattle.verdict.specs.declared.CleanAnswer.{CleanAnswer}
@@ -14,6 +17,10 @@ use Rattle.verdict.specs.declared.SnapshotAnswer.{SnapshotAnswer}
 use Rattle.verdict.specs.declared.SnapshotAnswer.the-variants as snapshot-answer
 use Rattle.verdict.specs.declared.Answer.{Answer}
 use Rattle.verdict.specs.declared.Answer.the-variants.{Order, Cycle, Nothing, Unclean}
+
+unfoldable pub said-refusal : Refusal → Checked
+said-refusal taken = checked.Passed
+said-refusal (refused number place) = checked.Refused number place
 
 unfoldable pub said-fault : clean.Fault → Fault
 said-fault (clean.aborted-at k) = fault.Aborted k

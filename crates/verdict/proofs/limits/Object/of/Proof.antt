@@ -4,10 +4,10 @@ use native.Mathlib.Omega.{arith}
 use Rattle.graph.specs.Tests.{_below_, _upto_, _and_, if_then_else_}
 use Rattle.graph.proofs.Truth.{→below, →not-below, if-true, if-false}
 use Rattle.verdict.specs.Limits.{make-object}
-use Rattle.verdict.proofs.Object.of.Statement.{statement}
-use Rattle.verdict.proofs.Object.of.Tie as tie
-use Rattle.verdict.proofs.Object.of.Reads as reads
-use Rattle.verdict.proofs.Object.of.Lts as lts
+use Rattle.verdict.proofs.limits.Object.of.Statement.{statement}
+use Rattle.verdict.proofs.limits.Object.of.Tie as tie
+use Rattle.verdict.proofs.limits.Object.of.Reads as reads
+use Rattle.verdict.proofs.limits.Object.of.Lts as lts
 
 -- src/lib.rt:52:13
 returns : tie.Need-returns

@@ -4,10 +4,10 @@ use native.Mathlib.Omega.{arith}
 use Rattle.graph.specs.Tests.{_below_, _upto_, _and_, if_then_else_}
 use Rattle.graph.proofs.Truth.{→and, and-no-left, and-no-right, →upto, →not-upto, if-true, if-false}
 use Rattle.verdict.specs.Limits.{make-transaction}
-use Rattle.verdict.proofs.Transaction.of.Statement.{statement}
-use Rattle.verdict.proofs.Transaction.of.Tie as tie
-use Rattle.verdict.proofs.Transaction.of.Reads as reads
-use Rattle.verdict.proofs.Transaction.of.Lts as lts
+use Rattle.verdict.proofs.limits.Transaction.of.Statement.{statement}
+use Rattle.verdict.proofs.limits.Transaction.of.Tie as tie
+use Rattle.verdict.proofs.limits.Transaction.of.Reads as reads
+use Rattle.verdict.proofs.limits.Transaction.of.Lts as lts
 
 -- src/lib.rt:24:13
 returns : tie.Need-returns

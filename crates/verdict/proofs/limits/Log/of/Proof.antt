@@ -4,10 +4,10 @@ use native.Mathlib.Omega.{arith}
 use Rattle.graph.specs.Tests.{_below_, _upto_, _and_, if_then_else_}
 use Rattle.graph.proofs.Truth.{→upto, →not-upto, if-true, if-false}
 use Rattle.verdict.specs.Limits.{make-log}
-use Rattle.verdict.proofs.Log.of.Statement.{statement}
-use Rattle.verdict.proofs.Log.of.Tie as tie
-use Rattle.verdict.proofs.Log.of.Reads as reads
-use Rattle.verdict.proofs.Log.of.Lts as lts
+use Rattle.verdict.proofs.limits.Log.of.Statement.{statement}
+use Rattle.verdict.proofs.limits.Log.of.Tie as tie
+use Rattle.verdict.proofs.limits.Log.of.Reads as reads
+use Rattle.verdict.proofs.limits.Log.of.Lts as lts
 
 -- src/lib.rt:77:13
 returns : tie.Need-returns
