@@ -66,6 +66,16 @@ unfolding _and_
 and-no-right true h = h
 and-no-right false h = refl
 
+pub and-true : {a b : Bool} → a ≡ true → (a and b) ≡ b
+unfolding _and_
+and-true {a = true} {b} h = refl
+and-true {a = false} {b} h = absurd (false≢true h)
+
+pub or-false : {a b : Bool} → a ≡ false → (a or b) ≡ b
+unfolding _or_
+or-false {a = true} {b} h = absurd (true≢false h)
+or-false {a = false} {b} h = refl
+
 pub fails→ : {a : Bool} → fails a ≡ true → a ≡ false
 unfolding fails
 fails→ {a = true} h = absurd (false≢true h)
@@ -182,6 +192,12 @@ none→ {n} p h i k = to-false (p i) (λ q. not-both (→some p i k q) h)
 pub →none : {n : ℕ} (p : ℕ → Bool) → ((i : ℕ) → i < n → p i ≡ false) → some n p ≡ false
 →none {n} p f = to-false (some n p) (λ h. let r = some→ h in not-both (r .2) (f (r .0) (r .1)))
 
+-- tests that agree below n
+pub some-same : (n : ℕ) (p q : ℕ → Bool) → ((i : ℕ) → i < n → p i ≡ q i) → some n p ≡ some n q
+unfolding some
+some-same zero p q f = refl
+some-same (suc n) p q f = rw (some-same n p q (λ (i : ℕ) (h : i < n). f i (omega arith)), f n (omega arith)) refl
+
 -- .. one test or another
 pub some-either : (n : ℕ) (p q : ℕ → Bool) → some n p ≡ true → some n (λ i. p i or q i) ≡ true
 some-either n p q h = let r = some→ h in →some _ (r .0) (r .1) (→or-left _ (r .2))
@@ -233,6 +249,10 @@ lowest-none {n = suc n} p h =
     let b : p n ≡ false = none→ {n = suc n} p h n (omega arith) in
     if-false (lowest n p) (if p n then n else suc n) a ∙ if-false n (suc n) b
 
+-- where the lowest is not below n, none passes
+pub lowest-some : {n : ℕ} (p : ℕ → Bool) → n ≤ lowest n p → some n p ≡ false
+lowest-some {n} p h = to-false (some n p) (λ k. let r = lowest-is p k .0 in omega arith)
+
 -- a number that passes while nothing below it does is the lowest
 pub lowest-at : {n : ℕ} (p : ℕ → Bool) (i : ℕ) → i < n → p i ≡ true → ((j : ℕ) → j < i → p j ≡ false) → lowest n p ≡ i
 lowest-at {n} p i h q f = go (decide (lowest n p below i)) (decide (i below lowest n p))
@@ -271,3 +291,7 @@ none-next i p h k = some-next i p ∙ or-no (some i p) k ∙ h
 pub every-next : (i : ℕ) (p : ℕ → Bool) → every (i + 1) p ≡ (every i p and p i)
 unfolding every
 every-next i p = rw (add-one i) refl
+
+-- a question over all numbers below n is one over those from 0 on
+pub from-first : (n : ℕ) (p : ℕ → Bool) → some n p ≡ some n (λ i. 0 upto i and p i)
+from-first n p = some-same n p (λ i. 0 upto i and p i) (λ i h. sym (and-true (→upto (omega arith))))

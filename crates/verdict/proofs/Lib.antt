@@ -1,7 +1,10 @@
 -- Laws of the definitions, and the theorems over them.
+pub mod Fill
 pub mod Refused
 pub mod Steps
+pub mod Faults
 pub mod WellFormed
+pub mod Frame
 pub mod Versions
 pub mod Finds
 pub mod Center

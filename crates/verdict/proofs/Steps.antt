@@ -1,16 +1,16 @@
 -- The numbers 1, 2 and 7 to 11, from the answers to the questions that decide them.
-use mathlib.Core.Path.{_≡_, refl, sym, ap, _∙_}
-use mathlib.Core.Bool.{Bool, true, false}
-use mathlib.Core.Logic.{_⊎_, inl, inr, ⊎-elim}
+use mathlib.Core.Path.{_≡_, refl, ap, _∙_}
+use mathlib.Core.Bool.{true, false}
+use mathlib.Core.Logic.{_⊎_, ⊎-elim}
 use mathlib.Core.List.{List}
 use Prim.Native.Nat.{ℕ, suc, _%_}
 use native.Mathlib.Omega.{arith}
 use lib.ListN.{length}
-use Rattle.graph.specs.Tests.{_is_, _upto_, _and_, _or_, fails}
+use Rattle.graph.specs.Tests.{_is_, _upto_, _and_, fails}
 use Rattle.graph.proofs.Truth.{→and, and-no-left, and-no-right, →or-left, →or-right, or-no, →fails, →not-fails, →is, →isnt, →below, →not-below, upto→, not-upto→}
 use Rattle.verdict.specs.Limits.{transactions, most-steps}
 use Rattle.verdict.specs.Log.{steps, kind, tx, obj, src}
-use Rattle.verdict.specs.Refusal.{Refusal, taken, refused, _at_when_, _else-try_, tried, begun, ended, wrote, life-refusal, source-refusal, step-refusal, open-refusal, log-refusal}
+use Rattle.verdict.specs.Refusal.{Refusal, taken, refused, _else-try_, tried, begun, ended, wrote, life-refusal, source-refusal, step-refusal, open-refusal, log-refusal}
 use Rattle.verdict.specs.Said.{said-refusal}
 use Rattle.verdict.specs.declared.Checked.the-variants as checked
 use Rattle.verdict.proofs.Refused.{when-yes, when-no, first-yes, first-no}

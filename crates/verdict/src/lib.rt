@@ -1,8 +1,10 @@
 // The judge of a log: what it may be handed, what it answers, and its entry points.
+mod cleanness;
 mod limits;
 mod refusal;
 mod walk;
 
+pub use cleanness::clean;
 pub use limits::Log;
 pub use limits::MadeLog;
 pub use limits::MadeObject;

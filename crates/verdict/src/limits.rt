@@ -69,6 +69,9 @@ pub enum MadeLog {
 impl Log {
     pub const LIMIT: usize = 1024;
 
+    // How many bytes the work area of a verdict over a log has.
+    pub const WORK: usize = 16384;
+
     // A log of so many steps, which are at most the limit.
     pub fn of(steps: usize) -> MadeLog
         ensures { λ r. ⌜ r ≡ make-log steps ⌝ }

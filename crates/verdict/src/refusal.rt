@@ -8,14 +8,14 @@ use crate::limits::Object;
 use crate::limits::Transaction;
 use crate::walk::ended_before;
 use crate::walk::seen;
-use crate::walk::wrote;
+use crate::walk::writes_within;
 ghost use mathlib.Core.Path.{_≡_};
 ghost use Prim.Native.Nat.{ℕ, suc, _≤_, _+_, _*_};
 ghost use lib.ListN.{length};
-ghost use Rattle.graph.specs.Tests.{_is_, _below_, _upto_, if_then_else_};
-ghost use Rattle.verdict.specs.Limits.{transactions, objects};
+ghost use Rattle.graph.specs.Tests.{_is_, _below_, _upto_, fails, if_then_else_};
+ghost use Rattle.verdict.specs.Limits.{transactions, objects, work-bytes};
 ghost use Rattle.verdict.specs.Log.{steps};
-ghost use Rattle.verdict.specs.Refusal.{tried, range-refusal, life-refusal, source-refusal, step-refusal, open-refusal, log-refusal};
+ghost use Rattle.verdict.specs.Refusal.{_at_when_, _else-try_, tried, range-refusal, life-refusal, source-refusal, step-refusal, open-refusal, log-refusal};
 ghost use Rattle.verdict.specs.Said.{said-refusal};
 ghost use Rattle.verdict.specs.Walk.{numbered, in-range};
 
@@ -110,12 +110,12 @@ fn source_number(log: &[u16], i: usize) -> u16
         return 0;
     }
     if s != 0 {
-        if !wrote(log, i, s, x) {
+        if !writes_within(log, 0, i, s, x) {
             return 9;
         }
     }
     if s != t {
-        if wrote(log, i, t, x) {
+        if writes_within(log, 0, i, t, x) {
             return 10;
         }
     }
@@ -188,4 +188,14 @@ pub fn check(log: &[u16]) -> Checked
         return stepwise;
     };
     check_open(log, n)
+}
+
+// 12 where the work area has a wrong length, and then what the check finds.
+pub fn admit(log: &[u16], work: usize) -> Checked
+    ensures { λ r. ⌜ r ≡ said-refusal (12 at 0 when fails (work is work-bytes) else-try log-refusal (now (log .entry))) ⌝ }
+{
+    if work != Log::WORK {
+        return Checked::Refused(12, 0);
+    }
+    check(log)
 }

@@ -2,7 +2,8 @@
 ghost use mathlib.Core.Path.{_≡_};
 ghost use Prim.Native.Nat.{_≤_, _*_};
 ghost use lib.ListN.{length};
-ghost use Rattle.graph.specs.Tests.{some};
+ghost use Rattle.graph.specs.Tests.{_upto_, _and_, some};
+ghost use Rattle.graph.specs.Lists.{zeros};
 ghost use Rattle.verdict.specs.Log.{writes, committed-count};
 ghost use Rattle.verdict.specs.Refusal.{ended};
 ghost use Rattle.verdict.specs.Walk.{does};
@@ -24,13 +25,13 @@ pub fn seen(log: &[u16], n: usize, k: u16, t: u16) -> bool
     false
 }
 
-// Whether t wrote x among the first so many steps.
-pub fn wrote(log: &[u16], n: usize, t: u16, x: u16) -> bool
-    requires { ⌜ 4 * n ≤ length (now log) ⌝ }
-    ensures { λ r. ⌜ r ≡ some n (writes (now (log .entry)) t x) ⌝ }
+// Whether t writes x in a step of these: `from` is the first of them, and `to` is behind the last.
+pub fn writes_within(log: &[u16], from: usize, to: usize, t: u16, x: u16) -> bool
+    requires { ⌜ (from ≤ to) × (4 * to ≤ length (now log)) ⌝ }
+    ensures { λ r. ⌜ r ≡ some to (λ j. from upto j and writes (now (log .entry)) t x j) ⌝ }
 {
-    let mut i = 0;
-    while i < n {
+    let mut i = from;
+    while i < to {
         if log[4 * i] == 3 {
             if log[4 * i + 1] == t {
                 if log[4 * i + 2] == x {
@@ -68,4 +69,13 @@ pub fn committed(log: &[u16]) -> usize
         i += 1;
     }
     total
+}
+
+// All bytes of the work area become 0.
+pub fn clear(work: &mut [u8])
+    ensures { λ _. ⌜ now (work .exit) ≡ zeros (length (now (work .entry))) ⌝ }
+{
+    for i in 0..work.len() {
+        work[i] = 0;
+    }
 }

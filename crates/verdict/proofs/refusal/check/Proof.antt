@@ -2,10 +2,8 @@ use mathlib.Core.Path.{_≡_, refl, sym, ap, _∙_}
 use Prim.Native.Nat.{ℕ}
 use native.Mathlib.Omega.{arith}
 use borrow.Author.Needs.{needs}
-use Rattle.graph.specs.Lists.{before}
 use Rattle.verdict.specs.Limits.{make-log}
 use Rattle.verdict.specs.Log.{steps}
-use Rattle.verdict.specs.Refusal.{taken}
 use Rattle.verdict.specs.Said.{said-refusal}
 use Rattle.verdict.proofs.Refused.{chose-first, chose-second}
 use Rattle.verdict.proofs.Steps.{odd-length, too-long, bad-step, good-steps, said-refused, said-passed}

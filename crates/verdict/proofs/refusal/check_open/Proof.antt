@@ -4,7 +4,6 @@ use mathlib.Core.Logic.{inl, inr, ⊎-elim}
 use mathlib.Core.List.{List}
 use Prim.Native.Nat.{ℕ, _-_, _≤_}
 use native.Mathlib.Omega.{arith}
-use Rattle.graph.specs.Lists.{before}
 use Rattle.verdict.specs.Log.{steps, begins}
 use Rattle.verdict.specs.Refusal.{taken, tried, begun, ended, open-refusal}
 use Rattle.verdict.specs.Said.{said-refusal}

@@ -2,7 +2,6 @@ use mathlib.Core.Path.{_≡_, refl, sym, ap, _∙_}
 use Prim.Native.Nat.{_-_, _*_, _≤_}
 use native.Mathlib.Omega.{arith}
 use lib.ListN.{length}
-use Rattle.graph.specs.Lists.{before}
 use Rattle.verdict.specs.Refusal.{taken, tried, step-refusal}
 use Rattle.verdict.specs.Said.{said-refusal}
 use Rattle.verdict.proofs.Refused.{numbered-some, numbered-none, tried-none, tried-first}

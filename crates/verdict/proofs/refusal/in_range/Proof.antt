@@ -3,9 +3,8 @@ use Prim.Native.Nat.{ℕ}
 use native.Mathlib.Omega.{arith}
 use borrow.Author.Needs.{needs}
 use Rattle.graph.specs.Tests.{_is_, fails}
-use Rattle.graph.specs.Lists.{before}
 use Rattle.verdict.specs.Limits.{make-transaction}
-use Rattle.verdict.specs.Refusal.{taken, _at_when_}
+use Rattle.verdict.specs.Refusal.{_at_when_}
 use Rattle.verdict.specs.Walk.{numbered, in-range}
 use Rattle.graph.proofs.Truth.{→fails, →not-fails}
 use borrow.Author.Tests.{not-true, not-false}

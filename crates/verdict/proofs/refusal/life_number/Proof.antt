@@ -1,9 +1,8 @@
 use mathlib.Core.Path.{sym, _∙_}
 use borrow.Author.Needs.{needs}
 use Rattle.graph.specs.Tests.{_is_, fails}
-use Rattle.graph.specs.Lists.{before}
 use Rattle.verdict.specs.Log.{kind, tx, begins}
-use Rattle.verdict.specs.Refusal.{taken, _at_when_, begun}
+use Rattle.verdict.specs.Refusal.{_at_when_, begun}
 use Rattle.verdict.specs.Walk.{numbered, does}
 use borrow.Author.Tests.{not-true, not-false}
 use Rattle.verdict.proofs.Steps.{begun-again, begins-now, not-begun, has-ended, under-way}

@@ -3,9 +3,7 @@ use Prim.Native.Nat.{ℕ}
 use native.Mathlib.Omega.{arith}
 use borrow.Author.Needs.{needs}
 use Rattle.graph.specs.Tests.{_is_}
-use Rattle.graph.specs.Lists.{before}
 use Rattle.verdict.specs.Limits.{make-object}
-use Rattle.verdict.specs.Refusal.{taken}
 use Rattle.graph.proofs.Truth.{if-true, if-false}
 use Rattle.verdict.proofs.Refused.{chose-first, chose-second}
 use Rattle.verdict.proofs.refusal.object_fits.Statement.{statement}

@@ -3,7 +3,6 @@ use Prim.Native.Nat.{ℕ, _≤_}
 use native.Mathlib.Omega.{arith}
 use borrow.Author.Needs.{needs}
 use Rattle.graph.specs.Tests.{_is_, _upto_, _and_, _or_, fails, if_then_else_}
-use Rattle.graph.specs.Lists.{before}
 use Rattle.verdict.specs.Refusal.{_at_when_, object-allowed, source-allowed, range-refusal}
 use Rattle.verdict.specs.Walk.{numbered, in-range}
 use Rattle.graph.proofs.Truth.{to-false, and→, →fails, upto→}

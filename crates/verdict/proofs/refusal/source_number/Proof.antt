@@ -2,10 +2,10 @@ use mathlib.Core.Path.{sym, _∙_}
 use mathlib.Core.Logic.{inl, inr, ⊎-elim}
 use borrow.Author.Needs.{needs}
 use Rattle.graph.specs.Tests.{_is_, fails}
-use Rattle.graph.specs.Lists.{before}
 use Rattle.verdict.specs.Log.{kind, tx, obj, src}
-use Rattle.verdict.specs.Refusal.{taken, _at_when_, wrote}
+use Rattle.verdict.specs.Refusal.{_at_when_, wrote}
 use Rattle.verdict.specs.Walk.{numbered}
+use Rattle.graph.proofs.Truth.{from-first}
 use borrow.Author.Tests.{not-true, not-false}
 use Rattle.verdict.proofs.Steps.{no-read, never-wrote, own-write-passed, source-right}
 use Rattle.verdict.proofs.refusal.source_number.Statement.{statement}
@@ -60,27 +60,27 @@ returns : tie.Need-returns
 unfolding numbered _at_when_ fails _is_ wrote kind tx obj src
 returns c = sym (no-read _ _ (c .if1 .taken))
 
-wrote-requires : tie.Need-wrote-requires
-wrote-requires c κs = search needs
+writes-within-requires : tie.Need-writes-within-requires
+writes-within-requires c κs = search needs
 
 returns-2 : tie.Need-returns-2
 unfolding numbered _at_when_ fails _is_ wrote kind tx obj src
-returns-2 c = sym (never-wrote _ _ (c .before .before .before .if1 .left) (c .before .before .if2 .taken) (sym (c .before .wrote .ensures) ∙ not-true _ (c .if3 .taken)))
+returns-2 c = sym (never-wrote _ _ (c .before .before .before .if1 .left) (c .before .before .if2 .taken) (from-first _ _ ∙ sym (c .before .writes-within .ensures) ∙ not-true _ (c .if3 .taken)))
 
-wrote-requires-2 : tie.Need-wrote-requires-2
-wrote-requires-2 c κs = search needs
+writes-within-requires-2 : tie.Need-writes-within-requires-2
+writes-within-requires-2 c κs = search needs
 
 returns-3 : tie.Need-returns-3
 unfolding numbered _at_when_ fails _is_ wrote kind tx obj src
-returns-3 c = sym (own-write-passed _ _ (c .before .before .before .before .if1 .left) (⊎-elim (λ w. inr (sym (w .1 .ensures) ∙ not-false _ (w .2 .left))) (λ w. inl (w .left)) (c .before .before .before .if2 .came)) (c .before .before .if4 .taken) (sym (c .before .wrote2 .ensures) ∙ c .if5 .taken))
+returns-3 c = sym (own-write-passed _ _ (c .before .before .before .before .if1 .left) (⊎-elim (λ w. inr (from-first _ _ ∙ sym (w .1 .ensures) ∙ not-false _ (w .2 .left))) (λ w. inl (w .left)) (c .before .before .before .if2 .came)) (c .before .before .if4 .taken) (from-first _ _ ∙ sym (c .before .writes-within2 .ensures) ∙ c .if5 .taken))
 
 returns-4 : tie.Need-returns-4
 unfolding numbered _at_when_ fails _is_ wrote kind tx obj src
-returns-4 c = sym (source-right _ _ (c .before .before .before .before .if1 .left) (⊎-elim (λ w. inr (sym (w .1 .ensures) ∙ not-false _ (w .2 .left))) (λ w. inl (w .left)) (c .before .before .before .if2 .came)) (inr (sym (c .before .wrote2 .ensures) ∙ c .if5 .left)))
+returns-4 c = sym (source-right _ _ (c .before .before .before .before .if1 .left) (⊎-elim (λ w. inr (from-first _ _ ∙ sym (w .1 .ensures) ∙ not-false _ (w .2 .left))) (λ w. inl (w .left)) (c .before .before .before .if2 .came)) (inr (from-first _ _ ∙ sym (c .before .writes-within2 .ensures) ∙ c .if5 .left)))
 
 returns-5 : tie.Need-returns-5
 unfolding numbered _at_when_ fails _is_ wrote kind tx obj src
-returns-5 c = sym (source-right _ _ (c .before .before .if1 .left) (⊎-elim (λ w. inr (sym (w .1 .ensures) ∙ not-false _ (w .2 .left))) (λ w. inl (w .left)) (c .before .if2 .came)) (inl (c .if4 .left)))
+returns-5 c = sym (source-right _ _ (c .before .before .if1 .left) (⊎-elim (λ w. inr (from-first _ _ ∙ sym (w .1 .ensures) ∙ not-false _ (w .2 .left))) (λ w. inl (w .left)) (c .before .if2 .came)) (inl (c .if4 .left)))
 
 pub source-number-spec : {M : Type 1} → statement M
 source-number-spec =
@@ -102,9 +102,9 @@ source-number-spec =
     mul-s-2
     shared-slice-read-s
     returns
-    wrote-requires
+    writes-within-requires
     returns-2
-    wrote-requires-2
+    writes-within-requires-2
     returns-3
     returns-4
     returns-5)

@@ -1,8 +1,7 @@
 use mathlib.Core.Path.{sym, _∙_}
 use borrow.Author.Needs.{needs}
-use Rattle.graph.specs.Lists.{before}
 use Rattle.verdict.specs.Log.{kind, tx, obj, src}
-use Rattle.verdict.specs.Refusal.{taken, step-refusal}
+use Rattle.verdict.specs.Refusal.{step-refusal}
 use Rattle.verdict.proofs.Refused.{numbered-first, numbered-then}
 use Rattle.verdict.proofs.refusal.step_number.Statement.{statement}
 use Rattle.verdict.proofs.refusal.step_number.Tie as tie

@@ -5,9 +5,7 @@ use native.Mathlib.Omega.{arith}
 use native.Mathlib.Numerals.{add-one}
 use lib.ListN.{length}
 use Rattle.graph.specs.Tests.{_is_, count}
-use Rattle.graph.specs.Lists.{before}
 use Rattle.verdict.specs.Log.{steps, kind, committed-count}
-use Rattle.verdict.specs.Refusal.{taken}
 use Rattle.graph.proofs.Truth.{→is, →isnt, count-yes, count-no}
 use Rattle.verdict.proofs.walk.committed.Statement.{statement}
 use Rattle.verdict.proofs.walk.committed.Tie as tie

@@ -1,8 +1,7 @@
 use mathlib.Core.Path.{sym, _∙_}
 use borrow.Author.Needs.{needs}
-use Rattle.graph.specs.Lists.{before}
 use Rattle.verdict.specs.Log.{commits, aborts}
-use Rattle.verdict.specs.Refusal.{taken, ended}
+use Rattle.verdict.specs.Refusal.{ended}
 use Rattle.verdict.specs.Walk.{does}
 use Rattle.graph.proofs.Truth.{some-either, some-other}
 use Rattle.verdict.proofs.walk.ended_before.Statement.{statement}

@@ -5,9 +5,7 @@ use Prim.Native.Nat.{_-_, _*_, _≤_}
 use native.Mathlib.Omega.{arith}
 use lib.ListN.{length}
 use Rattle.graph.specs.Tests.{some}
-use Rattle.graph.specs.Lists.{before}
 use Rattle.verdict.specs.Log.{kind, tx}
-use Rattle.verdict.specs.Refusal.{taken}
 use Rattle.verdict.specs.Walk.{does}
 use Rattle.graph.proofs.Truth.{→and, and-no-left, and-no-right, →is, →isnt, →some, none-next}
 use Rattle.verdict.proofs.walk.seen.Statement.{statement}

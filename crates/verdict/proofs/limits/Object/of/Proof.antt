@@ -1,7 +1,5 @@
-use mathlib.Core.Path.{_≡_, sym}
-use mathlib.Core.Bool.{Bool, true, false}
+use mathlib.Core.Path.{sym}
 use native.Mathlib.Omega.{arith}
-use Rattle.graph.specs.Tests.{_below_, _upto_, _and_, if_then_else_}
 use Rattle.graph.proofs.Truth.{→below, →not-below, if-true, if-false}
 use Rattle.verdict.specs.Limits.{make-object}
 use Rattle.verdict.proofs.limits.Object.of.Statement.{statement}

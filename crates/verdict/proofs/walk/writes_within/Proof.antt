@@ -1,26 +1,23 @@
-use mathlib.Core.Path.{_≡_, refl, sym}
+use mathlib.Core.Path.{_≡_, sym}
 use mathlib.Core.Bool.{false}
 use mathlib.Core.Logic.{⊎-elim}
 use Prim.Native.Nat.{_-_, _*_, _≤_}
 use native.Mathlib.Omega.{arith}
 use lib.ListN.{length}
-use Rattle.graph.specs.Tests.{some}
-use Rattle.graph.specs.Lists.{before}
+use Rattle.graph.specs.Tests.{_upto_, _and_, some}
 use Rattle.verdict.specs.Log.{kind, tx, obj, writes}
-use Rattle.verdict.specs.Refusal.{taken}
-use Rattle.graph.proofs.Truth.{→and, and-no-left, and-no-right, →is, →isnt, →some, none-next}
-use Rattle.verdict.proofs.walk.wrote.Statement.{statement}
-use Rattle.verdict.proofs.walk.wrote.Tie as tie
+use Rattle.graph.proofs.Truth.{→and, and-no-left, and-no-right, →is, →isnt, →upto, →not-upto, →some, →none, none-next}
+use Rattle.verdict.proofs.walk.writes_within.Statement.{statement}
+use Rattle.verdict.proofs.walk.writes_within.Tie as tie
 
 abbrev Inv-loop : tie.InvT-loop
-Inv-loop log n t x i₀ i = (i ≤ n) × (4 * n ≤ length log) × (some i (writes log t x) ≡ false)
+Inv-loop log from to t x i₀ i = (from ≤ i) × (i ≤ to) × (4 * to ≤ length log) × (some i (λ j. from upto j and writes log t x j) ≡ false)
 
 abbrev μ-loop : tie.MeasureT-loop
-μ-loop log n t x i₀ i = n - i
+μ-loop log from to t x i₀ i = to - i
 
 loop-holds : tie.Need-loop-holds Inv-loop μ-loop
-unfolding some
-loop-holds c = (omega arith, c .pre, refl)
+loop-holds c = (omega arith, c .pre .0, c .pre .1, →none _ (λ j h. and-no-left _ (→not-upto h)))
 
 mul-if1 : tie.Need-mul-if1 Inv-loop μ-loop
 mul-if1 c = omega arith
@@ -57,7 +54,9 @@ shared-slice-read-if3 c = omega arith
 
 returns : tie.Need-returns Inv-loop μ-loop
 unfolding writes kind tx obj
-returns c = sym (→some _ (c .before .before .before .before .before .before .before .loop .i) (omega arith) (→and (→and (→is (c .before .before .before .before .if1 .taken)) (→is (c .before .before .if2 .taken))) (→is (c .if3 .taken))))
+returns c = 
+    let at = c .before .before .before .before .before .before .before in
+    sym (→some _ (at .loop .i) (omega arith) (→and (→upto (at .loop .inv .0)) (→and (→and (→is (c .before .before .before .before .if1 .taken)) (→is (c .before .before .if2 .taken))) (→is (c .if3 .taken)))))
 
 add-i : tie.Need-add-i Inv-loop μ-loop
 add-i c = omega arith
@@ -67,20 +66,17 @@ loop-less c = omega arith
 
 loop-again : tie.Need-loop-again Inv-loop μ-loop
 unfolding writes kind tx obj
-loop-again c =
-    let at = c .before .before .before in (
-      omega arith,
-      at .loop .inv .1,
-      none-next _ _ (at .loop .inv .2)
-          (⊎-elim (λ w. and-no-right _ (→isnt (w .4 .left)))
-          (⊎-elim (λ w. and-no-left _ (and-no-right _ (→isnt (w .2 .left)))) (λ w. and-no-left _ (and-no-left _ (→isnt (w .left))))) (c .if1 .came)),
-    )
+loop-again c = 
+    let at = c .before .before .before in
+    (omega arith, omega arith, at .loop .inv .2, none-next _ _ (at .loop .inv .3)
+    (and-no-right _ (⊎-elim (λ w. and-no-right _ (→isnt (w .4 .left)))
+    (⊎-elim (λ w. and-no-left _ (and-no-right _ (→isnt (w .2 .left)))) (λ w. and-no-left _ (and-no-left _ (→isnt (w .left))))) (c .if1 .came))))
 
 returns-2 : tie.Need-returns-2 Inv-loop μ-loop
-returns-2 c = let e : c .before .loop .i ≡ c .before .before .args .n = omega arith in sym (rw e at (c .before .loop .inv .2))
+returns-2 c = let e : c .before .loop .i ≡ c .before .before .args .to = omega arith in sym (rw e at (c .before .loop .inv .3))
 
-pub wrote-spec : {M : Type 1} → statement M
-wrote-spec =
+pub writes-within-spec : {M : Type 1} → statement M
+writes-within-spec =
     tie.close
     (tie.spec
     Inv-loop
