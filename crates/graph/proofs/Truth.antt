@@ -7,7 +7,7 @@ use native.Mathlib.Omega.{arith}
 use native.Mathlib.Nat.{not-suc-le-zero}
 use native.Mathlib.Numerals.{add-one}
 use borrow.Author.Tests.{ltb-true, ltb-false, leb-true, leb-false, eqb-true, eqb-false, lt-ltb, le-ltb, le-leb, lt-leb, eq-eqb, ne-eqb}
-use Rattle.graph.specs.Tests.{_is_, _below_, _upto_, _and_, _or_, _implies_, fails, if_then_else_, some, every, count, lowest}
+use Rattle.graph.specs.Tests.{_is_, _below_, _upto_, _and_, _or_, _implies_, fails, if_then_else_, some, every, count, lowest, highest}
 
 -- a test passes or fails
 pub decide : (b : Bool) → (b ≡ true) ⊎ (b ≡ false)
@@ -249,6 +249,21 @@ lowest-none {n = suc n} p h =
     let b : p n ≡ false = none→ {n = suc n} p h n (omega arith) in
     if-false (lowest n p) (if p n then n else suc n) a ∙ if-false n (suc n) b
 
+pub lowest-bound : (n : ℕ) (p : ℕ → Bool) → lowest n p ≤ n
+lowest-bound n p = go (decide (some n p))
+  where
+    go : (some n p ≡ true) ⊎ (some n p ≡ false) → lowest n p ≤ n
+    go (inl k) = let r = lowest-is p k .0 in omega arith
+    go (inr k) = let e : lowest n p ≡ n = lowest-none p k in omega arith
+
+-- nothing below the lowest passes
+pub below-lowest : (n : ℕ) (p : ℕ → Bool) (i : ℕ) → i < lowest n p → p i ≡ false
+below-lowest n p i h = go (decide (some n p))
+  where
+    go : (some n p ≡ true) ⊎ (some n p ≡ false) → p i ≡ false
+    go (inl k) = lowest-is p k .2 i h
+    go (inr k) = let e : lowest n p ≡ n = lowest-none p k in none→ p k i (omega arith)
+
 -- where the lowest is not below n, none passes
 pub lowest-some : {n : ℕ} (p : ℕ → Bool) → n ≤ lowest n p → some n p ≡ false
 lowest-some {n} p h = to-false (some n p) (λ k. let r = lowest-is p k .0 in omega arith)
@@ -285,8 +300,11 @@ pub some-next : (i : ℕ) (p : ℕ → Bool) → some (i + 1) p ≡ (some i p or
 unfolding some
 some-next i p = rw (add-one i) refl
 
+pub some-skip : (i : ℕ) (p : ℕ → Bool) → p i ≡ false → some (i + 1) p ≡ some i p
+some-skip i p h = some-next i p ∙ or-no (some i p) h
+
 pub none-next : (i : ℕ) (p : ℕ → Bool) → some i p ≡ false → p i ≡ false → some (i + 1) p ≡ false
-none-next i p h k = some-next i p ∙ or-no (some i p) k ∙ h
+none-next i p h k = some-skip i p k ∙ h
 
 pub every-next : (i : ℕ) (p : ℕ → Bool) → every (i + 1) p ≡ (every i p and p i)
 unfolding every
@@ -295,3 +313,35 @@ every-next i p = rw (add-one i) refl
 -- a question over all numbers below n is one over those from 0 on
 pub from-first : (n : ℕ) (p : ℕ → Bool) → some n p ≡ some n (λ i. 0 upto i and p i)
 from-first n p = some-same n p (λ i. 0 upto i and p i) (λ i h. sym (and-true (→upto (omega arith))))
+
+-- the highest: one number more
+pub highest-yes : (n : ℕ) (p : ℕ → Bool) → p n ≡ true → highest (suc n) p ≡ n
+unfolding highest
+highest-yes n p h = if-true n (if some n p then highest n p else suc n) h
+
+pub highest-no : (n : ℕ) (p : ℕ → Bool) → p n ≡ false → some n p ≡ true → highest (suc n) p ≡ highest n p
+unfolding highest
+highest-no n p h k = if-false n (if some n p then highest n p else suc n) h ∙ if-true (highest n p) (suc n) k
+
+-- the lowest that passes one of two tests is the lower of the two lowest
+pub lowest-left : (n : ℕ) (p q : ℕ → Bool) → lowest n p < lowest n q → lowest n (λ i. p i or q i) ≡ lowest n p
+lowest-left n p q h = go (decide (some n p))
+  where
+    go : (some n p ≡ true) ⊎ (some n p ≡ false) → lowest n (λ i. p i or q i) ≡ lowest n p
+    go (inr k) = absurd (let e : lowest n p ≡ n = lowest-none p k in let z : lowest n q ≤ n = lowest-bound n q in omega arith)
+    go (inl k) =
+        let r = lowest-is p k in
+        lowest-at (λ i. p i or q i) (lowest n p) (r .0) (→or-left _ (r .1))
+        (λ (i : ℕ) (l : i < lowest n p). or-false (r .2 i l) ∙ below-lowest n q i (omega arith))
+
+pub lowest-right : (n : ℕ) (p q : ℕ → Bool) → lowest n q ≤ lowest n p → lowest n (λ i. p i or q i) ≡ lowest n q
+lowest-right n p q h = go (decide (some n q))
+  where
+    go : (some n q ≡ true) ⊎ (some n q ≡ false) → lowest n (λ i. p i or q i) ≡ lowest n q
+    go (inr k) =
+        let e : lowest n q ≡ n = lowest-none q k in
+        lowest-none (λ i. p i or q i) (→none _ (λ (i : ℕ) (l : i < n). or-false (below-lowest n p i (omega arith)) ∙ none→ q k i l)) ∙ sym e
+    go (inl k) =
+        let r = lowest-is q k in
+        lowest-at (λ i. p i or q i) (lowest n q) (r .0) (→or-right _ (r .1))
+        (λ (i : ℕ) (l : i < lowest n q). or-false (below-lowest n p i (omega arith)) ∙ r .2 i l)

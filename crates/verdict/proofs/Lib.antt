@@ -5,6 +5,7 @@ pub mod Steps
 pub mod Faults
 pub mod WellFormed
 pub mod Frame
+pub mod Marks
 pub mod Versions
 pub mod Finds
 pub mod Center

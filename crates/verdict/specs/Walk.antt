@@ -2,11 +2,12 @@
 use mathlib.Core.Path.{_≡_}
 use mathlib.Core.Bool.{Bool}
 use mathlib.Core.List.{List}
-use Prim.Native.Nat.{ℕ, _+_, _*_, _≤_, _<_}
+use Prim.Native.Nat.{ℕ, suc, _≤_, _<_}
 use lib.ListN.{getD}
 use Rattle.graph.specs.Tests.{_is_, _below_, _upto_, _and_, fails, if_then_else_, lowest}
 use Rattle.verdict.specs.Limits.{transactions, objects}
-use Rattle.verdict.specs.Log.{steps, kind, tx, writer}
+use Rattle.verdict.specs.Log.{steps, kind, tx, committed, commit-step}
+use Rattle.verdict.specs.Snapshot.{overlap, clash, wrong-commit}
 use Rattle.verdict.specs.Refusal.{Refusal, _at_when_, _else-try_}
 
 -- the refusal with number n, where 0 stands for none
@@ -29,6 +30,16 @@ module _ (log : List ℕ) where
   pub record FirstSteps (k : ℕ) (table : List ℕ) : Type 0 where
     pub entry : (t : ℕ) → t ≤ transactions → getD table t 0 ≡ lowest (steps log) (does k t)
 
-  -- the marks have, for each transaction and each object, whether the one writes the other
-  pub record Marks (marks : List ℕ) : Type 0 where
-    pub mark : (t x : ℕ) → t ≤ transactions → x < objects → fails (getD marks (t * objects + x) 0 is 0) ≡ writer log x t
+-- the marks say of each number below n whether it passes
+pub record Marked (n : ℕ) (passes : ℕ → Bool) (marks : List ℕ) : Type 0 where
+  pub mark : (c : ℕ) → c < n → fails (getD marks c 0 is 0) ≡ passes c
+
+module _ (log : List ℕ) where
+  -- p committed before step j and overlaps t
+  unfoldable pub partner : ℕ → ℕ → ℕ → Bool
+  partner j t p = committed log p and commit-step log p below j and overlap log t p
+
+  -- the first step that commits the later of two clashing writers, and its lowest-numbered partner
+  pub record FirstClash (step with-partner : ℕ) : Type 0 where
+    pub first : step ≡ lowest (steps log) (wrong-commit transactions log)
+    pub other : step < steps log → with-partner ≡ lowest (suc transactions) (clash log step)

@@ -16,6 +16,9 @@ pub enum MadeTransaction {
 impl Transaction {
     pub const LIMIT: u16 = 128;
 
+    // How many entries a table has that has one for each transaction and one for writer 0.
+    pub const TABLE: usize = Transaction::LIMIT as usize + 1;
+
     // The transaction of this number, which is 1 to the limit.
     pub fn of(number: u16) -> MadeTransaction
         ensures { λ r. ⌜ r ≡ make-transaction number ⌝ }
@@ -43,6 +46,9 @@ pub enum MadeObject {
 
 impl Object {
     pub const LIMIT: u16 = 64;
+
+    // How many entries a table has that has one for each object.
+    pub const TABLE: usize = Object::LIMIT as usize;
 
     // The object of this number, which is below the limit.
     pub fn of(number: u16) -> MadeObject

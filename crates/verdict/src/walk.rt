@@ -1,12 +1,22 @@
 // Walks over a log, each asking one question of its steps.
+use crate::limits::Object;
+use crate::limits::Transaction;
 ghost use mathlib.Core.Path.{_≡_};
-ghost use Prim.Native.Nat.{_≤_, _*_};
+ghost use Prim.Native.Nat.{suc, _≤_, _*_};
 ghost use lib.ListN.{length};
-ghost use Rattle.graph.specs.Tests.{_upto_, _and_, some};
+ghost use Rattle.graph.specs.Tests.{_upto_, _and_, some, lowest};
 ghost use Rattle.graph.specs.Lists.{zeros};
-ghost use Rattle.verdict.specs.Log.{writes, committed-count};
-ghost use Rattle.verdict.specs.Refusal.{ended};
-ghost use Rattle.verdict.specs.Walk.{does};
+ghost use Rattle.verdict.specs.Limits.{transactions, objects};
+ghost use Rattle.verdict.specs.Log.{steps, writes, writer, committed-count};
+ghost use Rattle.verdict.specs.Refusal.{taken, ended, log-refusal};
+ghost use Rattle.verdict.specs.Walk.{does, FirstSteps, Marked};
+
+// A number of a log as an index.
+pub fn index(x: u16) -> usize
+    ensures { λ r. ⌜ r ≡ x ⌝ }
+{
+    x as usize
+}
 
 // Whether t has a step of kind k among the first so many steps.
 pub fn seen(log: &[u16], n: usize, k: u16, t: u16) -> bool
@@ -69,6 +79,76 @@ pub fn committed(log: &[u16]) -> usize
         i += 1;
     }
     total
+}
+
+// The first step of kind k by t, or the number of steps where there is none.
+pub fn first_step(log: &[u16], k: u16, t: u16) -> usize
+    ensures { λ r. ⌜ r ≡ lowest (steps (now (log .entry))) (does (now (log .entry)) k t) ⌝ }
+{
+    let n = log.len() / 4;
+    let mut i = 0;
+    while i < n {
+        if log[4 * i] == k {
+            if log[4 * i + 1] == t {
+                return i;
+            }
+        }
+        i += 1;
+    }
+    i
+}
+
+// For each transaction, its first step of kind k.
+pub fn first_steps(log: &[u16], k: u16) -> [usize; Transaction::TABLE]
+    ensures { λ r. ⌜ FirstSteps (now (log .entry)) k r ⌝ }
+{
+    let mut table = [0usize; Transaction::TABLE];
+    let mut t: u16 = 0;
+    while t <= Transaction::LIMIT {
+        table[t as usize] = first_step(log, k, t);
+        t += 1;
+    }
+    table
+}
+
+// For each object, whether t writes it.
+pub fn written(log: &[u16], t: u16) -> [u8; Object::TABLE]
+    requires { ⌜ log-refusal (now log) ≡ taken ⌝ }
+    ensures { λ r. ⌜ Marked objects (λ x. writer (now (log .entry)) x t) r ⌝ }
+{
+    let n = log.len() / 4;
+    let mut marks = [0u8; Object::TABLE];
+    let mut i = 0;
+    while i < n {
+        if log[4 * i] == 3 {
+            if log[4 * i + 1] == t {
+                let x = index(log[4 * i + 2]);
+                marks[x] = 1;
+            }
+        }
+        i += 1;
+    }
+    marks
+}
+
+// For each transaction, whether it writes x.
+pub fn writers(log: &[u16], x: u16) -> [u8; Transaction::TABLE]
+    requires { ⌜ log-refusal (now log) ≡ taken ⌝ }
+    ensures { λ r. ⌜ Marked (suc transactions) (λ t. writer (now (log .entry)) x t) r ⌝ }
+{
+    let n = log.len() / 4;
+    let mut marks = [0u8; Transaction::TABLE];
+    let mut i = 0;
+    while i < n {
+        if log[4 * i] == 3 {
+            if log[4 * i + 2] == x {
+                let t = index(log[4 * i + 1]);
+                marks[t] = 1;
+            }
+        }
+        i += 1;
+    }
+    marks
 }
 
 // All bytes of the work area become 0.

@@ -1,0 +1,38 @@
+-- Marks: a table that says of each number whether it passes a test.
+use mathlib.Core.Path.{_≡_, refl, sym, ap, _∙_}
+use mathlib.Core.Bool.{Bool, true, false}
+use mathlib.Core.Logic.{_⊎_, inl, inr}
+use mathlib.Core.List.{List}
+use Prim.Native.Nat.{ℕ, suc, _+_, _≤_, _<_}
+use native.Mathlib.Omega.{arith}
+use lib.ListN.{length, getD, set, replicate, getD-replicate}
+use lib.Seq.{getD-set-same, getD-set-other}
+use Rattle.graph.specs.Tests.{_is_, fails, some}
+use Rattle.graph.proofs.Truth.{decide, →fails, →not-fails, →is, →isnt, is→, isnt→, →some, some-skip}
+use Rattle.verdict.specs.Walk.{Marked}
+
+-- no mark, and nothing passes
+pub unmarked : {n : ℕ} (m : ℕ) (p : ℕ → Bool) → n ≤ m → ((c : ℕ) → p c ≡ false) → Marked n p (replicate m 0)
+unmarked {n} m p h f = record { mark = λ (c : ℕ) (k : c < n). →not-fails (→is (getD-replicate m c 0 0 (omega arith))) ∙ sym (f c) }
+
+module _ {n : ℕ} (w : ℕ → ℕ → Bool) (i : ℕ) {marks : List ℕ} (m : Marked n (λ d. some i (w d)) marks) where
+  -- one step more, at which c passes and no other does
+  pub mark-step : (c : ℕ) → c < length marks → w c i ≡ true → ((d : ℕ) → (d ≡ c → ⊥) → w d i ≡ false) → Marked n (λ d. some (i + 1) (w d)) (set marks c 1)
+  mark-step c h t f = record { mark = λ d k. go d k (decide (d is c)) }
+    where
+      go : (d : ℕ) → d < n → ((d is c) ≡ true) ⊎ ((d is c) ≡ false) → fails (getD (set marks c 1) d 0 is 0) ≡ some (i + 1) (w d)
+      go d k (inl e) =
+          let z : d ≡ c = is→ e in
+          rw (z, getD-set-same marks c 1 0 h) (→fails (→isnt (λ (q : _≡_ {A = ℕ} 1 0). omega arith)) ∙ sym (→some (w c) i (omega arith) t))
+      go d k (inr e) = rw (getD-set-other marks c d 1 0 (isnt→ e)) (m .mark d k ∙ sym (some-skip i (w d) (f d (isnt→ e))))
+
+  -- one step more, at which none passes
+  pub mark-skip : ((d : ℕ) → w d i ≡ false) → Marked n (λ d. some (i + 1) (w d)) marks
+  mark-skip f = record { mark = λ d k. m .mark d k ∙ sym (some-skip i (w d) (f d)) }
+
+-- what a mark says
+pub marked-yes : {n : ℕ} {p : ℕ → Bool} {marks : List ℕ} → Marked n p marks → (c : ℕ) → c < n → (getD marks c 0 ≡ 0 → ⊥) → p c ≡ true
+marked-yes m c h k = sym (m .mark c h) ∙ →fails (→isnt k)
+
+pub marked-no : {n : ℕ} {p : ℕ → Bool} {marks : List ℕ} → Marked n p marks → (c : ℕ) → c < n → getD marks c 0 ≡ 0 → p c ≡ false
+marked-no m c h k = sym (m .mark c h) ∙ →not-fails (→is k)
