@@ -5,6 +5,8 @@ pub mod Search
 pub mod Pigeon
 pub mod Judge
 pub mod Walks
+pub mod Peel
+pub mod Marks
 pub mod Greedy
 pub mod Shortest
 pub mod Only

@@ -1,6 +1,6 @@
 -- Laws of the tests of specs/Tests.antt. A test passes when it is `≡ true`.
 use mathlib.Core.Path.{_≡_, refl, sym, ap, subst, _∙_}
-use mathlib.Core.Bool.{Bool, true, false, true≢false, false≢true}
+use mathlib.Core.Bool.{Bool, true, false, not, true≢false, false≢true}
 use mathlib.Core.Logic.{_⊎_, inl, inr}
 use Prim.Native.Nat.{ℕ, zero, suc, _+_, _≤_, _<_}
 use native.Mathlib.Omega.{arith}
@@ -24,6 +24,12 @@ to-false false f = refl
 pub to-true : (b : Bool) → (b ≡ false → ⊥) → b ≡ true
 to-true true f = refl
 to-true false f = absurd (f refl)
+
+-- two tests of which each passes when the other does are one
+pub same-test : {a b : Bool} → (a ≡ true → b ≡ true) → (b ≡ true → a ≡ true) → a ≡ b
+same-test {a = true} {b} f g = sym (f refl)
+same-test {a = false} {b = true} f g = g refl
+same-test {a = false} {b = false} f g = refl
 
 -- the connectives
 pub and→ : {a b : Bool} → (a and b) ≡ true → (a ≡ true) × (b ≡ true)
@@ -56,6 +62,11 @@ unfolding _or_
 or-no true h = refl
 or-no false h = h
 
+pub and-yes : {a : Bool} (b : Bool) → a ≡ true → (a and b) ≡ b
+unfolding _and_
+and-yes {a = true} b h = refl
+and-yes {a = false} b h = absurd (false≢true h)
+
 pub and-no-left : {a : Bool} (b : Bool) → a ≡ false → (a and b) ≡ false
 unfolding _and_
 and-no-left {a = true} b h = absurd (true≢false h)
@@ -75,6 +86,12 @@ pub →fails : {a : Bool} → a ≡ false → fails a ≡ true
 unfolding fails
 →fails {a = true} h = absurd (true≢false h)
 →fails {a = false} h = refl
+
+-- the code's `!`
+pub not-fails : (b : Bool) → not b ≡ fails b
+unfolding fails
+not-fails true = refl
+not-fails false = refl
 
 pub implies→ : {a b : Bool} → (a implies b) ≡ true → a ≡ true → b ≡ true
 unfolding _implies_
@@ -164,6 +181,9 @@ none→ {n} p h i k = to-false (p i) (λ q. not-both (→some p i k q) h)
 pub →none : {n : ℕ} (p : ℕ → Bool) → ((i : ℕ) → i < n → p i ≡ false) → some n p ≡ false
 →none {n} p f = to-false (some n p) (λ h. let r = some→ h in not-both (r .2) (f (r .0) (r .1)))
 
+pub none-below : {i : ℕ} (n : ℕ) (p : ℕ → Bool) → some i p ≡ false → n ≤ i → some n p ≡ false
+none-below n p h l = →none p (λ (j : ℕ) (k : j < n). none→ p h j (omega arith))
+
 pub every→ : {n : ℕ} (p : ℕ → Bool) → every n p ≡ true → (i : ℕ) → i < n → p i ≡ true
 unfolding every
 every→ {n = zero} p h i k = absurd (not-suc-le-zero k)
@@ -216,6 +236,9 @@ lowest-at {n} p i h q f = go (decide (lowest n p below i)) (decide (i below lowe
     go (inr a) (inl b) = absurd (not-both q (found .2 i (below→ b)))
     go (inr a) (inr b) = omega (arith, not-below→ a, not-below→ b)
 
+pub lowest-found : {n : ℕ} (p : ℕ → Bool) (i : ℕ) → i < n → p i ≡ true → some i p ≡ false → lowest n p ≡ i
+lowest-found p i h q none = lowest-at p i h q (none→ p none)
+
 pub lowest-le : {n : ℕ} (p : ℕ → Bool) (i : ℕ) → i < n → p i ≡ true → lowest n p ≤ i
 lowest-le {n} p i h q = go (decide (i below lowest n p))
   where
@@ -239,3 +262,7 @@ some-next i p = rw (add-one i) refl
 pub every-next : (i : ℕ) (p : ℕ → Bool) → every (i + 1) p ≡ (every i p and p i)
 unfolding every
 every-next i p = rw (add-one i) refl
+
+-- nothing up to i passes, and neither does i
+pub none-next : (i : ℕ) (p : ℕ → Bool) → some i p ≡ false → p i ≡ false → some (i + 1) p ≡ false
+none-next i p h q = some-next i p ∙ or-no _ q ∙ h

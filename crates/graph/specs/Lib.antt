@@ -6,3 +6,4 @@ pub mod Order
 pub mod Cycle
 pub mod Shows
 pub mod Matrix
+pub mod Steps
