@@ -7,7 +7,11 @@ pub mod Judge
 pub mod Walks
 pub mod Peel
 pub mod Marks
+pub mod Follow
+pub mod Laid
 pub mod Greedy
+pub mod Begins
+pub mod Filled
 pub mod Shortest
 pub mod Only
 pub mod Exclude

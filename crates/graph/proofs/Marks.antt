@@ -1,5 +1,5 @@
 -- The graph of a byte matrix and marks: its edges join vertices that take part, and to take a mark away takes the vertex away.
-use mathlib.Core.Path.{_≡_, refl, sym, ap, subst, fun-ext, _∙_}
+use mathlib.Core.Path.{_≡_, refl, sym, ap, ap₂, fun-ext, _∙_}
 use mathlib.Core.Bool.{Bool, true, false}
 use mathlib.Core.Logic.{_⊎_, inl, inr, ⊎-elim}
 use mathlib.Core.List.{List, [], _∷_}
@@ -85,21 +85,21 @@ module _ (n : ℕ) (m part : List ℕ) where
     pub joined-apart : joined n m (unmarked v part) ≡ apart v (joined n m part)
     joined-apart = fun-ext (λ a. fun-ext (unmarked-joined a))
 
+    pub order-without : matrix-order n m (unmarked v part) ≡ is-order (suc n) (without v (takes-part n part)) (apart v (joined n m part))
+    unfolding matrix-order
+    order-without = ap₂ (is-order (suc n)) parts-without joined-apart
+
   -- AN ORDER OF THE VERTICES THAT TAKE PART begins with one that may come first, and goes on without its mark
   pub matrix-peel : n ≤ length part → (a : ℕ) (w : List ℕ)
       → matrix-order n m part (a ∷ w) ≡ (free (suc n) (takes-part n part) (joined n m part) a and matrix-order n m (unmarked a part) w)
   unfolding matrix-order
-  matrix-peel long a w = peel (suc n) (takes-part n part) (joined n m part) ends a w ∙ go (decide (free (suc n) (takes-part n part) (joined n m part) a))
+  matrix-peel long a w = peel (suc n) (takes-part n part) (joined n m part) ends a w ∙ go (decide begin)
     where
       begin : Bool
       begin = free (suc n) (takes-part n part) (joined n m part) a
 
-      go : (begin ≡ true) ⊎ (begin ≡ false)
-          → (begin and is-order (suc n) (without a (takes-part n part)) (apart a (joined n m part)) w)
-          ≡ (begin and is-order (suc n) (takes-part n (unmarked a part)) (joined n m (unmarked a part)) w)
-      go (inl h) =
-          let p = part→ n part a (free→ h .is-node) in
-          rw (parts-without long a (p .low) (p .high), joined-apart long a (p .low) (p .high)) refl
+      go : (begin ≡ true) ⊎ (begin ≡ false) → (begin and is-order (suc n) (without a (takes-part n part)) (apart a (joined n m part)) w) ≡ (begin and matrix-order n m (unmarked a part) w)
+      go (inl h) = let p = part→ n part a (free→ h .is-node) in ap (λ (f : List ℕ → Bool). begin and f w) (sym (order-without long a (p .low) (p .high)))
       go (inr h) = and-no-left _ h ∙ sym (and-no-left _ h)
 
   pub matrix-none : matrix-order n m part [] ≡ fails (some (suc n) (takes-part n part))

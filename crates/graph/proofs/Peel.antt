@@ -3,13 +3,13 @@ use mathlib.Core.Path.{_≡_, refl, sym, ap, subst, _∙_}
 use mathlib.Core.Bool.{Bool, true, false, false≢true}
 use mathlib.Core.Logic.{_⊎_, inl, inr, ⊎-elim}
 use mathlib.Core.List.{List, [], _∷_}
-use Prim.Native.Nat.{ℕ, _<_}
+use Prim.Native.Nat.{ℕ, zero, suc, _<_}
 use native.Mathlib.Omega.{arith}
-use Rattle.graph.specs.Tests.{_is_, _below_, _and_, _implies_, fails, some, every}
+use Rattle.graph.specs.Tests.{_is_, _below_, _and_, _implies_, fails, some, every, count, if_then_else_}
 use Rattle.graph.specs.Lists.{member, all, distinct, before}
 use Rattle.graph.specs.Order.{once-each, keeps, is-order}
 use Rattle.graph.specs.Steps.{free, without, apart}
-use Rattle.graph.proofs.Truth.{decide, not-both, to-false, to-true, same-test, and→, →and, →fails, fails→, →implies, implies→, is→, →is, isnt→, →isnt, below→, →below, some→, →some, none→, →none, every→, →every}
+use Rattle.graph.proofs.Truth.{decide, not-both, to-false, to-true, same-test, and→, →and, →fails, fails→, →implies, implies→, is→, →is, isnt→, →isnt, below→, →below, not-below→, if-true, if-false, some→, →some, none→, →none, every→, →every}
 use Rattle.graph.proofs.Places.{member→, all→, →all, member-head, member-tail, distinct→, before→, before-head, before-tail, none-before-head}
 
 pub record Free (n : ℕ) (node : ℕ → Bool) (edge : ℕ → ℕ → Bool) (b : ℕ) : Type 0 where
@@ -116,3 +116,31 @@ module _ (n : ℕ) (node : ℕ → Bool) (edge : ℕ → ℕ → Bool) (ends : (
   peel-none =
       same-test (λ h. →fails (→none _ (λ t l. to-false _ (λ k. false≢true (order→ n node edge [] h .whole t l k)))))
       (λ h. →order n node edge [] (record { different = refl; only = λ t m. absurd (false≢true m); whole = λ t l k. absurd (not-both k (none→ _ (fails→ h) t l)); kept = λ a b m. absurd (false≢true m) }))
+
+-- there is one node less without one
+pub count-same : (n : ℕ) (p q : ℕ → Bool) → ((i : ℕ) → i < n → p i ≡ q i) → count n p ≡ count n q
+unfolding count
+count-same zero p q f = refl
+count-same (suc n) p q f = rw (f n (omega arith), count-same n p q (λ i h. f i (omega arith))) refl
+
+one-more : (x : Bool) (k : ℕ) → (if x then suc (suc k) else suc k) ≡ suc (if x then suc k else k)
+unfolding if_then_else_
+one-more true k = refl
+one-more false k = refl
+
+pub count-without : (n : ℕ) (node : ℕ → Bool) (b : ℕ) → b < n → node b ≡ true → count n node ≡ suc (count n (without b node))
+unfolding count
+count-without zero node b h k = absurd (omega arith)
+count-without (suc n) node b h k = go (decide (b below n)) (λ l. count-without n node b l k)
+  where
+    same : (i : ℕ) → (i ≡ b → ⊥) → without b node i ≡ node i
+    same i d = same-test (λ q. without→ node q .0) (λ q. →without node q d)
+
+    gone : without b node b ≡ false
+    gone = to-false _ (λ q. without→ node q .1 refl)
+
+    go : ((b below n) ≡ true) ⊎ ((b below n) ≡ false) → (b < n → count n node ≡ suc (count n (without b node))) → count (suc n) node ≡ suc (count (suc n) (without b node))
+    go (inl l) rec = let z : b < n = below→ l in rw (same n (λ (e : n ≡ b). omega arith), rec z) (one-more (node n) (count n (without b node)))
+    go (inr l) rec =
+        let e : n ≡ b = omega (arith, not-below→ l) in
+        if-true _ _ (rw e k) ∙ ap suc (count-same n node (without b node) (λ (i : ℕ) (q : i < n). sym (same i (λ (z : i ≡ b). omega arith))) ∙ sym (if-false _ _ (rw e gone)))

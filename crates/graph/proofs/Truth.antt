@@ -1,7 +1,7 @@
 -- Laws of the tests of specs/Tests.antt. A test passes when it is `≡ true`.
 use mathlib.Core.Path.{_≡_, refl, sym, ap, subst, _∙_}
 use mathlib.Core.Bool.{Bool, true, false, not, true≢false, false≢true}
-use mathlib.Core.Logic.{_⊎_, inl, inr}
+use mathlib.Core.Logic.{_⊎_, inl, inr, ⊎-elim}
 use Prim.Native.Nat.{ℕ, zero, suc, _+_, _≤_, _<_}
 use native.Mathlib.Omega.{arith}
 use native.Mathlib.Nat.{not-suc-le-zero}
@@ -224,6 +224,9 @@ lowest-none {n = suc n} p h =
     let b : p n ≡ false = none→ {n = suc n} p h n (omega arith) in
     if-false (lowest n p) (if p n then n else suc n) a ∙ if-false n (suc n) b
 
+pub lowest-some : {n : ℕ} (p : ℕ → Bool) → lowest n p < n → some n p ≡ true
+lowest-some {n} p h = to-true _ (λ k. let e : lowest n p ≡ n = lowest-none p k in omega arith)
+
 -- a number that passes while nothing below it does is the lowest
 pub lowest-at : {n : ℕ} (p : ℕ → Bool) (i : ℕ) → i < n → p i ≡ true → ((j : ℕ) → j < i → p j ≡ false) → lowest n p ≡ i
 lowest-at {n} p i h q f = go (decide (lowest n p below i)) (decide (i below lowest n p))
@@ -254,6 +257,15 @@ count-yes i p h = rw (add-one i) (if-true (suc (count i p)) (count i p) h)
 pub count-no : (i : ℕ) (p : ℕ → Bool) → p i ≡ false → count (i + 1) p ≡ count i p
 unfolding count
 count-no i p h = rw (add-one i) (if-false (suc (count i p)) (count i p) h)
+
+-- a count is at most the bound, and less where 0 does not pass
+pub count-above : (n : ℕ) (p : ℕ → Bool) → p 0 ≡ false → count (suc n) p ≤ n
+unfolding count
+count-above zero p h = let e : count 1 p ≡ 0 = if-false 1 0 h in omega arith
+count-above (suc n) p h =
+    let r : count (suc n) p ≤ n = count-above n p h in
+    ⊎-elim (λ (k : p (suc n) ≡ true). let e : count (suc (suc n)) p ≡ suc (count (suc n) p) = if-true _ _ k in omega arith)
+    (λ (k : p (suc n) ≡ false). let e : count (suc (suc n)) p ≡ count (suc n) p = if-false _ _ k in omega arith) (decide (p (suc n)))
 
 pub some-next : (i : ℕ) (p : ℕ → Bool) → some (i + 1) p ≡ (some i p or p i)
 unfolding some

@@ -1,10 +1,13 @@
 -- What the private functions find. No public contract cites these.
 use mathlib.Core.Path.{_≡_}
-use mathlib.Core.Bool.{Bool}
-use mathlib.Core.List.{List, [], _∷_}
+use mathlib.Core.Bool.{Bool, true, false}
+use mathlib.Core.List.{List}
 use Prim.Native.Nat.{ℕ, suc, _+_, _-_, _≤_, _<_}
 use lib.ListN.{length, getD, set}
+use lib.Seq.{sets}
 use Rattle.graph.specs.Tests.{_is_, _below_, _upto_, _and_, fails, some, lowest}
+use Rattle.graph.specs.First.{dictionary, First}
+use Rattle.graph.specs.Cycle.{is-cycle}
 use Rattle.graph.specs.Matrix.{vertices, takes-part, joined, matrix-order}
 
 -- an order may begin with b: it is a node, and no edge leads to it
@@ -28,5 +31,12 @@ unmarked v left = set left (v - 1) 0
 
 -- what a buffer holds once w was laid into it from place i on
 unfoldable pub laid : ℕ → List ℕ → List ℕ → List ℕ
-laid i [] l = l
-laid i (a ∷ w) l = laid (suc i) w (set l i a)
+laid i w l = sets l i w
+
+-- what `place` does: it lays down `placed` from place i on, and ends where none of the `rest` may begin
+pub record Places (m left : List ℕ) (i : ℕ) (witness : List ℕ) (count : ℕ) (rest witness′ : List ℕ) : Type 0 where
+  pub placed : List ℕ
+  pub counted : count ≡ i + length placed
+  pub lies : witness′ ≡ laid i placed witness
+  pub order : some (suc vertices) (takes-part vertices rest) ≡ false → First dictionary (matrix-order vertices m left) placed
+  pub cycle : some (suc vertices) (takes-part vertices rest) ≡ true → (c : List ℕ) × (is-cycle (joined vertices m left) c ≡ true)
