@@ -2,13 +2,16 @@
 use mathlib.Core.Path.{_≡_, sym, subst, _∙_}
 use mathlib.Core.Bool.{Bool, true, false}
 use mathlib.Core.List.{List}
-use Prim.Native.Nat.{ℕ, _≤_, _<_}
+use Prim.Native.Nat.{ℕ, suc, _≤_, _<_}
+use lib.ListN.{length}
 use native.Mathlib.Omega.{arith}
-use Rattle.graph.specs.Tests.{_upto_, _and_, lowest}
-use Rattle.graph.specs.Steps.{may-begin}
+use Rattle.graph.specs.Tests.{_upto_, _and_, count, lowest}
+use Rattle.graph.specs.Matrix.{takes-part}
+use Rattle.graph.specs.Steps.{may-begin, unmarked}
 use Rattle.graph.proofs.Truth.{to-false, and→, →and, upto→, →upto, lowest-is, lowest-le, lowest-some}
 use Rattle.graph.proofs.Peel.{free→}
 use Rattle.graph.proofs.Marks.{Part, part→}
+use Rattle.graph.proofs.Sized.{part-less}
 
 pub record Lowest (m left : List ℕ) (start v : ℕ) : Type 0 where
   pub begins : may-begin m left v ≡ true
@@ -29,3 +32,7 @@ module _ (m left : List ℕ) (start v : ℕ) (is-lowest : v ≡ lowest 129 (λ t
 
   pub none-begins : 128 < v → (t : ℕ) → start ≤ t → may-begin m left t ≡ false
   none-begins h t l = to-false _ (λ b. let z : v ≤ t = at-most t b l in let y : t < 129 = free→ b .bound in omega arith)
+
+  -- without its mark one vertex less is left
+  pub lowest-less : length left ≡ 128 → v ≤ 128 → count 129 (takes-part 128 left) ≡ suc (count 129 (takes-part 128 (unmarked v left)))
+  lowest-less size h = part-less 128 m left (omega arith) v (free→ (lowest→ h .begins) .is-node)

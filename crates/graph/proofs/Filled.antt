@@ -11,10 +11,10 @@ use Rattle.graph.specs.Cycle.{is-cycle}
 use Rattle.graph.specs.Matrix.{takes-part, joined, matrix-order}
 use Rattle.graph.specs.Steps.{may-begin, without, apart, unmarked, laid, Places}
 use Rattle.graph.proofs.Truth.{not-both, to-false, and→, →and, →fails, →upto, →none, none→, →some, lowest-is, lowest-le, lowest-some, lowest-none}
-use Rattle.graph.proofs.Peel.{free→, apart→, count-without}
-use Rattle.graph.proofs.Marks.{part→, ends, no-loop, parts-without, joined-apart, order-without}
+use Rattle.graph.proofs.Peel.{free→, apart→}
+use Rattle.graph.proofs.Marks.{part→, ends, no-loop, joined-apart, order-without}
 use Rattle.graph.proofs.Greedy.{cycle-more, first-none, first-next, stuck}
-use Rattle.graph.proofs.Begins.{lowest→, none-begins}
+use Rattle.graph.proofs.Begins.{lowest→, none-begins, lowest-less}
 use Rattle.graph.proofs.Laid.{laid-none, laid-more}
 
 -- what `place` has laid down after some turns, from place i on: n entries stand, and `rest` are the marks that are left
@@ -32,13 +32,8 @@ filled-none m left i witness size room =
     record { placed = []; counted = omega arith; lies = sym (laid-none i witness); size = size; room = room; front = λ u f. f; inner = λ a b h. h }
 
 module _ {m left : List ℕ} {i : ℕ} {witness : List ℕ} {n : ℕ} {rest witness′ : List ℕ} (f : Filled m left i witness n rest witness′) (v : ℕ) (is-lowest : v ≡ lowest 129 (λ t. 1 upto t and may-begin m rest t)) where
-  filled-room : v ≤ 128 → count 129 (takes-part 128 rest) ≡ suc (count 129 (takes-part 128 (unmarked v rest)))
-  filled-room h =
-      let l = lowest→ m rest 1 v is-lowest h in
-      rw (parts-without 128 m rest (omega (arith, f .size)) v (l .from) h) (count-without 129 (takes-part 128 rest) v (omega arith) (free→ (l .begins) .is-node))
-
   pub filled-next : v ≤ 128 → (1 ≤ v) × (n < 128)
-  filled-next h = (lowest→ m rest 1 v is-lowest h .from, omega (arith, f .room, filled-room h))
+  filled-next h = (lowest→ m rest 1 v is-lowest h .from, omega (arith, f .room, lowest-less m rest 1 v is-lowest (f .size) h))
 
   pub filled-more : v ≤ 128 → Filled m left i witness (n + 1) (unmarked v rest) (set witness′ n v)
   unfolding matrix-order
@@ -51,7 +46,7 @@ module _ {m left : List ℕ} {i : ℕ} {witness : List ℕ} {n : ℕ} {rest witn
         counted = simp length-append (omega (arith, f .counted));
         lies = rw (f .lies, f .counted) (sym (laid-more i (f .placed) witness v));
         size = unfold unmarked in (simp length-set (f .size));
-        room = omega (arith, f .room, filled-room h);
+        room = omega (arith, f .room, lowest-less m rest 1 v is-lowest (f .size) h);
         front = λ u g.
             rw append-assoc (f .front (v ∷ u) (first-next 129 _ _ (ends 128 m rest) v u (l .begins) (λ t b. l .least t b (part→ 128 rest t (free→ b .is-node) .low)) (rw (order-without 128 m rest fits v (l .from) h) at g)));
         inner = λ a b k. f .inner a b (apart→ (joined 128 m rest) (ap (λ (e : ℕ → ℕ → Bool). e a b) (sym edges) ∙ k) .0);

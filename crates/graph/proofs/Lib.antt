@@ -10,8 +10,10 @@ pub mod Marks
 pub mod Follow
 pub mod Laid
 pub mod Greedy
+pub mod Sized
 pub mod Begins
 pub mod Filled
+pub mod Turn
 pub mod Shortest
 pub mod Only
 pub mod Exclude

@@ -258,6 +258,11 @@ pub count-no : (i : ℕ) (p : ℕ → Bool) → p i ≡ false → count (i + 1) 
 unfolding count
 count-no i p h = rw (add-one i) (if-false (suc (count i p)) (count i p) h)
 
+pub count-none : (n : ℕ) (p : ℕ → Bool) → some n p ≡ false → count n p ≡ 0
+unfolding count
+count-none zero p h = refl
+count-none (suc n) p h = if-false _ _ (none→ {n = suc n} p h n (omega arith)) ∙ count-none n p (none-below {i = suc n} n p h (omega arith))
+
 -- a count is at most the bound, and less where 0 does not pass
 pub count-above : (n : ℕ) (p : ℕ → Bool) → p 0 ≡ false → count (suc n) p ≤ n
 unfolding count
