@@ -14,6 +14,7 @@ pub mod Sized
 pub mod Begins
 pub mod Filled
 pub mod Turn
+pub mod Answers
 pub mod Shortest
 pub mod Only
 pub mod Exclude

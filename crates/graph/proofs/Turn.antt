@@ -1,6 +1,6 @@
 -- One turn of `follow`: the first order later than a ∷ w, from what is later than w without a's mark, or else from a higher beginning.
 use mathlib.Core.Path.{_≡_, refl, sym, ap, subst, _∙_}
-use mathlib.Core.Bool.{Bool, true, false}
+use mathlib.Core.Bool.{Bool, true, false, false≢true}
 use mathlib.Core.List.{List, [], _∷_}
 use mathlib.Core.Option.{Option, none, some as just}
 use Prim.Native.Nat.{ℕ, suc, _+_, _≤_, _<_}
@@ -21,6 +21,34 @@ use Rattle.graph.proofs.Greedy.{cycle-more}
 use Rattle.graph.proofs.Sized.{part-less, order-size, order-acyclic}
 use Rattle.graph.proofs.Begins.{Lowest, lowest→, none-begins}
 use Rattle.graph.proofs.Laid.{laid-none, laid-last, laid-front}
+
+-- a list later than another is not empty
+later-long : (passes : List ℕ → Bool) (v u : List ℕ) → later passes v u ≡ true → 0 < length u
+unfolding later dictionary
+later-long passes v [] h = absurd (false≢true (and→ h .1))
+later-long passes v (a ∷ u) h = omega arith
+
+-- nothing was found: nothing is later, and nothing was laid down
+pub found-none : {m left v : List ℕ} {i : ℕ} {witness : List ℕ} {n : ℕ} {witness′ : List ℕ} → Followed m left v i witness n witness′ → n ≤ 0
+    → Never (later (matrix-order 128 m left) v) × (witness′ ≡ witness)
+unfolding until later-members
+found-none {m} {left} {v} {i} {witness} {n} {witness′} f h = go (f .found) (f .right) (f .counted) (f .lies)
+  where
+    go : (o : Option (List ℕ)) → Earliest (later (matrix-order 128 m left) v) o → n ≡ until i o → witness′ ≡ laid i (later-members o) witness
+        → Never (later (matrix-order 128 m left) v) × (witness′ ≡ witness)
+    go none (not-any g) c l = (g, l ∙ laid-none i witness)
+    go (just u) (earliest g) c l = absurd (omega (arith, later-long _ v u (g .one)))
+
+-- .. and else what was found is a list
+pub found-some : {m left v : List ℕ} {i : ℕ} {witness : List ℕ} {n : ℕ} {witness′ : List ℕ} → Followed m left v i witness n witness′ → 0 < n
+    → (u : List ℕ) × First dictionary (later (matrix-order 128 m left) v) u × (n ≡ i + length u) × (witness′ ≡ laid i u witness)
+unfolding until later-members
+found-some {m} {left} {v} {i} {witness} {n} {witness′} f h = go (f .found) (f .right) (f .counted) (f .lies)
+  where
+    go : (o : Option (List ℕ)) → Earliest (later (matrix-order 128 m left) v) o → n ≡ until i o → witness′ ≡ laid i (later-members o) witness
+        → (u : List ℕ) × First dictionary (later (matrix-order 128 m left) v) u × (n ≡ i + length u) × (witness′ ≡ laid i u witness)
+    go (just u) (earliest g) c l = (u, g, c, l)
+    go none g c l = absurd (omega arith)
 
 module _ (m left : List ℕ) (size : length left ≡ 128) where
   peeled : (a : ℕ) (w : List ℕ) → matrix-order 128 m left (a ∷ w) ≡ (may-begin m left a and matrix-order 128 m (unmarked a left) w)
@@ -48,18 +76,14 @@ module _ (m left : List ℕ) (size : length left ≡ 128) where
     -- a later order begins with a too
     pub turn-same : (i n : ℕ) (witness witness′ : List ℕ) → Followed m (unmarked a left) w (i + 1) witness n witness′ → 0 < n → Followed m left (a ∷ w) i witness n (set witness′ i a)
     unfolding until later-members
-    turn-same i n witness witness′ f h = go (f .found) (f .right) (f .counted) (f .lies)
-      where
-        go : (o : Option (List ℕ)) → Earliest (later (matrix-order 128 m (unmarked a left)) w) o → n ≡ until (i + 1) o → witness′ ≡ laid (i + 1) (later-members o) witness
-            → Followed m left (a ∷ w) i witness n (set witness′ i a)
-        go (just u) (earliest g) c l =
-            record {
-              found = just (a ∷ u);
-              right = earliest (later-same (may-begin m left) (matrix-order 128 m left) (λ b. matrix-order 128 m (unmarked b left)) peeled a w u turn-begin g);
-              counted = omega arith;
-              lies = ap (λ (z : List ℕ). set z i a) l ∙ laid-last i u witness a;
-            }
-        go none g c l = absurd (omega arith)
+    turn-same i n witness witness′ f h =
+        let r = found-some f h in
+        record {
+          found = just (a ∷ r .0);
+          right = earliest (later-same (may-begin m left) (matrix-order 128 m left) (λ b. matrix-order 128 m (unmarked b left)) peeled a w (r .0) turn-begin (r .1));
+          counted = omega (arith, r .2);
+          lies = ap (λ (z : List ℕ). set z i a) (r .3) ∙ laid-last i (r .0) witness a;
+        }
 
     -- no later order begins with a: the lowest beginning that is higher is b
     module _ (never : Never (later (matrix-order 128 m (unmarked a left)) w)) (b : ℕ) (is-lowest : b ≡ lowest 129 (λ t. (a + 1) upto t and may-begin m left t)) (i : ℕ) (witness : List ℕ) where
@@ -97,17 +121,6 @@ module _ (m left : List ℕ) (size : length left ≡ 128) where
           all : some 129 (takes-part 128 rest) ≡ false
           all = to-false _ (λ q. let c = p .cycle q in not-both (c .1) (acyclic (c .0)))
 
--- nothing was found: nothing is later, and nothing was laid down
-pub found-none : {m left v : List ℕ} {i : ℕ} {witness : List ℕ} {n : ℕ} {witness′ : List ℕ} → Followed m left v i witness n witness′ → 0 < i → n ≡ 0
-    → Never (later (matrix-order 128 m left) v) × (witness′ ≡ witness)
-unfolding until later-members
-found-none {m} {left} {v} {i} {witness} {n} {witness′} f up h = go (f .found) (f .right) (f .counted) (f .lies)
-  where
-    go : (o : Option (List ℕ)) → Earliest (later (matrix-order 128 m left) v) o → n ≡ until i o → witness′ ≡ laid i (later-members o) witness
-        → Never (later (matrix-order 128 m left) v) × (witness′ ≡ witness)
-    go none (not-any g) c l = (g, l ∙ laid-none i witness)
-    go (just u) g c l = absurd (omega arith)
-
 -- The same where the given list is read from place i on.
 module _ (m left : List ℕ) (size : length left ≡ 128) (given : List ℕ) (i : ℕ) (ordered : matrix-order 128 m left (drop i given) ≡ true) where
   pub at-end : length given ≤ i → (witness : List ℕ) → Followed m left (drop i given) i witness 0 witness
@@ -137,5 +150,5 @@ module _ (m left : List ℕ) (size : length left ≡ 128) (given : List ℕ) (i 
           → ((w : List ℕ) → matrix-order 128 m left (getD given i 0 ∷ w) ≡ true → Never (later (matrix-order 128 m (unmarked (getD given i 0) left)) w) → Followed m left (getD given i 0 ∷ w) i witness′ k witness″)
           → Followed m left (drop i given) i witness k witness″
       at-higher z k witness″ g =
-          let r = found-none f (omega arith) (omega arith) in
+          let r = found-none f z in
           rw entry (subst (λ (l : List ℕ). Followed m left (getD given i 0 ∷ drop (i + 1) given) i l k witness″) (r .1) (g (drop (i + 1) given) begun (r .0)))

@@ -5,6 +5,10 @@ mod onward;
 mod order;
 
 pub use order::keeps;
+ghost use mathlib.Core.Path.{_≡_};
+ghost use mathlib.Core.Bool.{true};
+ghost use lib.ListN.{length};
+ghost use Rattle.graph.specs.Matrix.{vertices, matrix-order, Follows};
 
 // What `sort` shows: an order of all vertices that take part, or a cycle, and how many entries of the witness it has.
 pub enum Answer {
@@ -16,4 +20,17 @@ pub enum Answer {
 pub enum Later {
     Found(usize),
     Nothing,
+}
+
+// The first order that comes later than the given one and keeps every edge.
+pub fn next(m: &[u8], part: [u8; 128], given: &[u16], out: &mut [u16]) -> Later
+    requires { ⌜ (length (now m) ≡ 16384) × (length (now out) ≡ 128) × (matrix-order vertices (now m) part (now given) ≡ true) ⌝ }
+    ensures { λ r. ⌜ Follows vertices (now (m .entry)) part (now (given .entry)) r (now (out .exit)) ⌝ }
+{
+    order::clear(out);
+    let n = onward::follow(out, m, part, given, 0);
+    if n == 0 {
+        return Later::Nothing;
+    }
+    Later::Found(n)
 }
