@@ -14,7 +14,9 @@ pub mod Sized
 pub mod Begins
 pub mod Filled
 pub mod Turn
-pub mod Answers
 pub mod Shortest
+pub mod Far
+pub mod Ring
+pub mod Answers
 pub mod Only
 pub mod Exclude

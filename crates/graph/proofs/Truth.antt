@@ -227,6 +227,11 @@ lowest-none {n = suc n} p h =
 pub lowest-some : {n : ℕ} (p : ℕ → Bool) → lowest n p < n → some n p ≡ true
 lowest-some {n} p h = to-true _ (λ k. let e : lowest n p ≡ n = lowest-none p k in omega arith)
 
+pub lowest-bound : {n : ℕ} (p : ℕ → Bool) → lowest n p ≤ n
+lowest-bound {n} p =
+    ⊎-elim (λ (k : some n p ≡ true). let z : lowest n p < n = lowest-is p k .0 in omega arith)
+    (λ (k : some n p ≡ false). let z : lowest n p ≡ n = lowest-none p k in omega arith) (decide (some n p))
+
 -- a number that passes while nothing below it does is the lowest
 pub lowest-at : {n : ℕ} (p : ℕ → Bool) (i : ℕ) → i < n → p i ≡ true → ((j : ℕ) → j < i → p j ≡ false) → lowest n p ≡ i
 lowest-at {n} p i h q f = go (decide (lowest n p below i)) (decide (i below lowest n p))
