@@ -50,26 +50,8 @@ module _ (edge : ℕ → ℕ → Bool) where
       let z : far edge s k t < k = r .1 in
       far-at s l t (far edge s k t) (omega arith) h (r .0) (λ (i : ℕ) (q : i < far edge s k t). far-before s k t i q (omega arith) (omega arith))
 
--- nothing is marked, and marks in two steps
-pub marked-none : (p : ℕ → Bool) (mark : ℕ) (f : ℕ → ℕ) → ((t : ℕ) → p t ≡ false) → Marked p mark f f
-marked-none p mark f none = record { each = λ t l h. inr (refl, λ e. none t) }
-
-pub marked-more : (p q : ℕ → Bool) {mark : ℕ} {f g h : ℕ → ℕ} → mark < 128 → Marked p mark f g → Marked q mark g h → Marked (λ t. p t or q t) mark f h
-marked-more p q {mark} {f} {g} {h} m a b = record { each = λ t l k. go t (a .each t l k) (b .each t l k) }
-  where
-    go : (t : ℕ) → ((f t ≡ 128) × (p t ≡ true) × (g t ≡ mark)) ⊎ ((g t ≡ f t) × (f t ≡ 128 → p t ≡ false))
-        → ((g t ≡ 128) × (q t ≡ true) × (h t ≡ mark)) ⊎ ((h t ≡ g t) × (g t ≡ 128 → q t ≡ false))
-        → ((f t ≡ 128) × ((p t or q t) ≡ true) × (h t ≡ mark)) ⊎ ((h t ≡ f t) × (f t ≡ 128 → (p t or q t) ≡ false))
-    go t (inl x) (inl y) = absurd (omega (arith, x .2, y .0))
-    go t (inl x) (inr y) = inl (x .0, →or-left _ (x .1), y .0 ∙ x .2)
-    go t (inr x) (inl y) = inl (sym (x .0) ∙ y .0, →or-right _ (y .1), y .2)
-    go t (inr x) (inr y) = inr (y .0 ∙ x .0, λ e. or-no _ (y .1 (x .0 ∙ e)) ∙ x .1 e)
-
--- the marks of one layer keep what had the mark before
-pub marked-old : {p : ℕ → Bool} {mark : ℕ} {f g : ℕ → ℕ} → Marked p mark f g → (t d : ℕ) → 1 ≤ t → t ≤ 128 → (d ≡ mark → ⊥) → (d ≡ 128 → ⊥) → (g t is d) ≡ (f t is d)
-marked-old {p} {mark} {f} {g} a t d l k n m =
-    ⊎-elim (λ (x : (f t ≡ 128) × (p t ≡ true) × (g t ≡ mark)). →isnt (λ (e : g t ≡ d). n (sym e ∙ x .2)) ∙ sym (→isnt (λ (e : f t ≡ d). m (sym e ∙ x .0))))
-    (λ (x : (g t ≡ f t) × (f t ≡ 128 → p t ≡ false)). ap (λ (z : ℕ). z is d) (x .0)) (a .each t l k)
+pub near-at : {edge : ℕ → ℕ → Bool} {s k : ℕ} {f : ℕ → ℕ} → Near edge s k f → (l : ℕ) → k ≡ l → Near edge s l f
+near-at n l e = rw (← e) n
 
 module _ (edge : ℕ → ℕ → Bool) (ends : (a b : ℕ) → edge a b ≡ true → (1 ≤ b) × (b ≤ 128)) (s : ℕ) where
   -- the first layer: those with an edge to s

@@ -4,10 +4,10 @@ use mathlib.Core.Bool.{Bool, true, false, true≢false, false≢true}
 use mathlib.Core.Logic.{_⊎_, inl, inr, ⊎-elim}
 use mathlib.Core.List.{List, [], _∷_}
 use mathlib.Core.Option.{Option, none, some}
-use Prim.Native.Nat.{ℕ, zero, suc, _≤_, _<_}
+use Prim.Native.Nat.{ℕ, zero, suc, _+_, _≤_, _<_}
 use native.Mathlib.Omega.{arith}
 use lib.ListN.{length}
-use Rattle.graph.specs.Tests.{_below_, _upto_, _and_, _implies_, every}
+use Rattle.graph.specs.Tests.{_below_, _upto_, _and_, _implies_, every, count}
 use Rattle.graph.specs.Lists.{member, all, distinct}
 use Rattle.graph.specs.First.{dictionary, shorter, First, Never}
 use Rattle.graph.specs.Order.{once-each, keeps, is-order}
@@ -16,7 +16,7 @@ use Rattle.graph.specs.Shows.{Shown, order, cycle, Shows, shows-order, s
 use Rattle.graph.proofs.Truth.{decide, not-both, to-false, and→, →and, →fails, implies→, every→, →every, is→, →is, below→, →below, not-below→}
 use Rattle.graph.proofs.Places.{member→, all→, →all, member-head, member-tail}
 use Rattle.graph.proofs.Search.{rising, find-list, find-short, ascending, find-first, find-none, short-first, short-none}
-use Rattle.graph.proofs.Pigeon.{pigeon, rising-distinct, ascending-rises, ascending-has, ascending-only}
+use Rattle.graph.proofs.Pigeon.{pigeon, rising-distinct, ascending-rises, ascending-has, ascending-only, ascending-length}
 
 unfoldable pub shown-by : Option (List ℕ) → Option (List ℕ) → Option Shown
 shown-by (some c) w = some (cycle c)
@@ -35,6 +35,10 @@ module _ (n : ℕ) (node : ℕ → Bool) where
   pub nodes-rise : rising nodes ≡ true
   unfolding nodes
   nodes-rise = ascending-rises n node [] (unfold rising in refl) (λ t m. absurd (false≢true (unfold member in m)))
+
+  pub nodes-length : length nodes ≡ count n node
+  unfolding nodes
+  nodes-length = let e : length (ascending n node []) ≡ count n node + 0 = ascending-length n node [] in omega arith
 
   pub node-there : (t : ℕ) → t < n → node t ≡ true → member t nodes ≡ true
   unfolding nodes
@@ -74,7 +78,7 @@ module _ (n : ℕ) (node : ℕ → Bool) where
     cycle-distinct (a ∷ c) h =
         →and (→fails (to-false _ (λ m. let z : a < a = below→ (all→ _ c (and→ (and→ (and→ h .0) .0) .1) a m) in omega arith))) (and→ (and→ h .0) .1)
 
-    cycle-length : (c : List ℕ) → is-cycle edge c ≡ true → length c < suc (length nodes)
+    pub cycle-length : (c : List ℕ) → is-cycle edge c ≡ true → length c < suc (length nodes)
     cycle-length c h = let a : length c ≤ length nodes = pigeon c nodes (cycle-distinct c h) (all→ _ c (cycle-over c h)) in omega arith
 
     -- there is a first shortest cycle, or none at all

@@ -15,6 +15,7 @@ pub mod Begins
 pub mod Filled
 pub mod Turn
 pub mod Shortest
+pub mod Layers
 pub mod Far
 pub mod Ring
 pub mod Answers

@@ -52,6 +52,12 @@ module _ (n : ℕ) (m part : List ℕ) where
   pub ends : (a b : ℕ) → joined n m part a b ≡ true → (a < suc n) × (takes-part n part a ≡ true)
   ends a b h = let j = joined→ n m part a b h in let z : a ≤ n = part→ n part a (j .from) .high in (omega arith, j .from)
 
+  pub ends-from : (a b : ℕ) → joined n m part a b ≡ true → (1 ≤ a) × (a ≤ n)
+  ends-from a b h = let p = part→ n part a (joined→ n m part a b h .from) in (p .low, p .high)
+
+  pub ends-to : (a b : ℕ) → joined n m part a b ≡ true → (1 ≤ b) × (b ≤ n)
+  ends-to a b h = let p = part→ n part b (joined→ n m part a b h .to) in (p .low, p .high)
+
   pub no-loop : (a : ℕ) → joined n m part a a ≡ true → ⊥
   no-loop a h = joined→ n m part a a h .differ refl
 

@@ -38,6 +38,9 @@ module _ {edge : ℕ → ℕ → Bool} {e k s : ℕ} (l : Least edge e k s) (h :
         best = below-more _ _ (l .best) (λ a. (omega arith, λ _ q. let r : s < e = l .home q .1 in omega arith));
       }
 
+pub least-all : {edge : ℕ → ℕ → Bool} {e k s : ℕ} → Least edge e k s → e ≡ 129 → Least edge 129 k s
+least-all l e = rw (← e) l
+
 module _ {edge : ℕ → ℕ → Bool} (from : (a b : ℕ) → edge a b ≡ true → (1 ≤ a) × (a ≤ 128)) {k s : ℕ} (l : Least edge 129 k s) where
   start : (t j : ℕ) → reach edge t j t ≡ true → (1 ≤ t) × (t ≤ 128)
   unfolding reach
@@ -60,11 +63,15 @@ module _ {edge : ℕ → ℕ → Bool} (from : (a b : ℕ) → edge a b ≡ true
   least-found [] h b = absurd (false≢true (unfold is-cycle in h))
   least-found (a ∷ d) h b = let r : k ≤ length d = long a (length d) (omega arith) (way-reach edge bound a (length d) a d (cycle-way edge bound a d h)) .0 in omega arith
 
+  closed : k < 128 → reach edge s k s ≡ true
+  closed b = let home : far edge s 128 s ≡ k = l .home b .2 in subst (λ (z : ℕ). reach edge s z s ≡ true) home (far-reach edge s 128 s (omega arith) .0)
+
+  pub least-size : k < 128 → length (pick edge s k s) ≡ k
+  least-size b = pick-way edge s k s (closed b) .size
+
   pub least-first : ((a : ℕ) → edge a a ≡ true → ⊥) → k < 128 → First shorter (is-cycle edge) (s ∷ pick edge s k s)
   least-first no-loop b =
-      let home : far edge s 128 s ≡ k = l .home b .2 in
-      shortest-first edge bound no-loop k (λ (j : ℕ) (q : j < k) (t : ℕ). to-false _ (λ h. omega (arith, long t j (omega arith) h .0))) s
-      (subst (λ (z : ℕ). reach edge s z s ≡ true) home (far-reach edge s 128 s (omega arith) .0))
+      shortest-first edge bound no-loop k (λ (j : ℕ) (q : j < k) (t : ℕ). to-false _ (λ h. omega (arith, long t j (omega arith) h .0))) s (closed b)
       (λ (t : ℕ) (q : t < s). to-false _ (λ h. let z : s ≤ t = long t k b h .1 refl in omega arith))
 
 -- the lowest way from s, traced as far as a, which is k from home; `before` has the way laid from place 1 on
@@ -80,14 +87,14 @@ pub record Traced (edge : ℕ → ℕ → Bool) (s len : ℕ) (before : List ℕ
 pub traced-none : (edge : ℕ → ℕ → Bool) (s len : ℕ) (before : List ℕ) → far edge s 128 s ≡ len → 1 ≤ s → s ≤ 128 → Traced edge s len before s len before
 traced-none edge s len before h a b = record { walked = []; way = refl; counted = omega arith; at = h; low = a; high = b; lies = sym (laid-none 1 before) }
 
-pub traced-more : {edge : ℕ → ℕ → Bool} → ((a b : ℕ) → edge a b ≡ true → (1 ≤ b) × (b ≤ 128)) → {s len : ℕ} {before : List ℕ} {a : ℕ} {after : List ℕ} {f : ℕ → ℕ} (k : ℕ) → Near edge s 128 f
-    → len < 128 → Traced edge s len before a (k + 1) after → (r : ℕ) → r ≡ lowest 129 (λ u. s below u and edge a u and f u is k) → Traced edge s len before r k (set after (len - k) r)
-traced-more {edge} ends {s} {len} {before} {a} {after} {f} k n b t r e =
-    let o = onward-pick edge ends s n a k (omega (arith, t .counted)) (t .at) r e in
+pub traced-more : {edge : ℕ → ℕ → Bool} → ((a b : ℕ) → edge a b ≡ true → (1 ≤ b) × (b ≤ 128)) → {s len : ℕ} {before : List ℕ} {a : ℕ} {after : List ℕ} {f : ℕ → ℕ} {j : ℕ} (k : ℕ) → j ≡ k + 1 → Near edge s 128 f
+    → len < 128 → Traced edge s len before a j after → (r : ℕ) → r ≡ lowest 129 (λ u. s below u and edge a u and f u is k) → Traced edge s len before r k (set after (len - k) r)
+traced-more {edge} ends {s} {len} {before} {a} {after} {f} {j} k one n b t r e =
+    let o = onward-pick edge ends s n a k (omega (arith, t .counted)) (t .at ∙ one) r e in
     let place : len - k ≡ 1 + length (t .walked) = omega (arith, t .counted) in
     record {
       walked = t .walked ++ r ∷ [];
-      way = t .way ∙ ap (λ (z : List ℕ). t .walked ++ z) (o .3) ∙ sym (append-assoc (t .walked) (r ∷ []) (pick edge s k r));
+      way = t .way ∙ ap (λ (z : List ℕ). t .walked ++ z) (ap (λ (z : ℕ). pick edge s z a) one ∙ o .3) ∙ sym (append-assoc (t .walked) (r ∷ []) (pick edge s k r));
       counted = simp length-append (omega (arith, t .counted));
       at = o .2;
       low = o .0;
@@ -95,6 +102,6 @@ traced-more {edge} ends {s} {len} {before} {a} {after} {f} k n b t r e =
       lies = rw (place, t .lies) (sym (laid-more 1 (t .walked) before r));
     }
 
-pub traced-all : {edge : ℕ → ℕ → Bool} {s len : ℕ} {before : List ℕ} {a : ℕ} {after : List ℕ} → Traced edge s len before a 0 after → after ≡ laid 1 (pick edge s len s) before
+pub traced-all : {edge : ℕ → ℕ → Bool} {s len : ℕ} {before : List ℕ} {a k : ℕ} {after : List ℕ} → Traced edge s len before a k after → k ≡ 0 → after ≡ laid 1 (pick edge s len s) before
 unfolding pick
-traced-all {before} t = t .lies ∙ ap (λ (z : List ℕ). laid 1 z before) (sym (append-nil (t .walked)) ∙ sym (t .way))
+traced-all {edge} {s} {before} {a} t e = t .lies ∙ ap (λ (z : List ℕ). laid 1 z before) (sym (append-nil (t .walked)) ∙ ap (λ (z : ℕ). t .walked ++ pick edge s z a) (sym e) ∙ sym (t .way))

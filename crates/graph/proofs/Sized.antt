@@ -1,4 +1,4 @@
--- An order has as many members as vertices take part, at most 128; and a graph that has one has no cycle.
+-- An order has as many members as vertices take part, and a cycle at most so many; a graph that has an order has no cycle.
 use mathlib.Core.Path.{_≡_, refl, sym, ap, _∙_}
 use mathlib.Core.Bool.{Bool, true, false}
 use mathlib.Core.List.{List, [], _∷_}
@@ -15,6 +15,7 @@ use Rattle.graph.proofs.Truth.{and→, fails→, count-none, count-abov
 use Rattle.graph.proofs.Peel.{free→, order→, count-without}
 use Rattle.graph.proofs.Marks.{zero-out, part→, ends, parts-without, matrix-peel, matrix-none}
 use Rattle.graph.proofs.Exclude.{no-cycle}
+use Rattle.graph.proofs.Judge.{nodes-length, cycle-length}
 
 module _ (n : ℕ) (m : List ℕ) where
   -- one vertex less takes part where a mark is taken away
@@ -38,3 +39,6 @@ module _ (n : ℕ) (m : List ℕ) where
   order-acyclic part v h =
       let o = order→ (suc n) (takes-part n part) (joined n m part) v h in
       no-cycle (joined n m part) v (o .different) (and→ h .1) (λ a b e. let q = ends n m part a b e in o .whole a (q .0) (q .1))
+
+  pub cycle-size : (part c : List ℕ) → is-cycle (joined n m part) c ≡ true → length c ≤ n
+  cycle-size part c h = omega (arith, cycle-length (suc n) (takes-part n part) (joined n m part) (ends n m part) c h, nodes-length (suc n) (takes-part n part), most part)

@@ -1,5 +1,6 @@
 // Orders and cycles of a graph on the vertices 1..128. The byte at (a - 1) * 128 + (b - 1) of the matrix is not 0 where an edge leads
 // from a to b, and a vertex takes part where its mark is not 0. An edge of a vertex to itself, or of one that takes no part, counts for nothing.
+mod cycle;
 mod left;
 mod onward;
 mod order;
