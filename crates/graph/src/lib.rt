@@ -9,7 +9,7 @@ pub use order::keeps;
 ghost use mathlib.Core.Path.{_≡_};
 ghost use mathlib.Core.Bool.{true};
 ghost use lib.ListN.{length};
-ghost use Rattle.graph.specs.Matrix.{vertices, matrix-order, Follows};
+ghost use Rattle.graph.specs.Matrix.{vertices, matrix-order, Sorts, Follows};
 
 // What `sort` shows: an order of all vertices that take part, or a cycle, and how many entries of the witness it has.
 pub enum Answer {
@@ -21,6 +21,22 @@ pub enum Answer {
 pub enum Later {
     Found(usize),
     Nothing,
+}
+
+// The first order, or else the first shortest cycle.
+pub fn sort(m: &[u8], part: [u8; 128], out: &mut [u16]) -> Answer
+    requires { ⌜ (length (now m) ≡ 16384) × (length (now out) ≡ 128) ⌝ }
+    ensures { λ r. ⌜ Sorts vertices (now (m .entry)) part r (now (out .exit)) ⌝ }
+{
+    order::clear(out);
+    let p = order::place(out, m, part, 0);
+    let left = p.left;
+    let count = p.count;
+    if left::some_left(&left) {
+        order::clear(out);
+        return Answer::Cycle(cycle::cycle(out, m, &part));
+    }
+    Answer::Order(count)
 }
 
 // The first order that comes later than the given one and keeps every edge.
