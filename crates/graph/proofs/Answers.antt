@@ -1,14 +1,14 @@
 -- What `sort` and `next` answer, from what was found and laid into a cleared witness.
 use mathlib.Core.Path.{_≡_, refl, sym, ap, _∙_}
-use mathlib.Core.Bool.{Bool, true, false}
+use mathlib.Core.Bool.{true, false}
 use mathlib.Core.List.{List, [], _∷_}
-use mathlib.Core.Option.{Option, none, some as just}
-use Prim.Native.Nat.{ℕ, _+_, _-_, _≤_, _<_}
+use mathlib.Core.Option.{none, some as just}
+use Prim.Native.Nat.{ℕ, _+_, _≤_, _<_}
 use native.Mathlib.Omega.{arith}
 use lib.ListN.{length, set}
-use Rattle.graph.specs.Tests.{_and_, some}
+use Rattle.graph.specs.Tests.{some}
 use Rattle.graph.specs.Lists.{zeros, entries}
-use Rattle.graph.specs.First.{dictionary, First, Earliest, earliest, not-any, later}
+use Rattle.graph.specs.First.{dictionary, First, earliest, not-any, later}
 use Rattle.graph.specs.Cycle.{is-cycle}
 use Rattle.graph.specs.Shows.{order, cycle, members, shows-order, shows-cycle}
 use Rattle.graph.specs.Matrix.{takes-part, joined, matrix-order, told, told-later, later-members, Sorts, Follows}

@@ -1,14 +1,14 @@
 -- Dictionary order is a strict order of all lists, so "the first" is one.
-use mathlib.Core.Path.{_≡_, refl, sym, ap, subst, _∙_}
-use mathlib.Core.Bool.{Bool, true, false, true≢false, false≢true}
+use mathlib.Core.Path.{_≡_, refl, sym}
+use mathlib.Core.Bool.{Bool, true, false, true≢false}
 use mathlib.Core.Logic.{_⊎_, inl, inr, ⊎-elim}
 use mathlib.Core.List.{List, [], _∷_}
-use Prim.Native.Nat.{ℕ, zero, suc, _≤_, _<_}
+use Prim.Native.Nat.{ℕ, _≤_, _<_}
 use native.Mathlib.Omega.{arith}
 use lib.ListN.{length}
-use Rattle.graph.specs.Tests.{_is_, _below_, _and_, _or_}
+use Rattle.graph.specs.Tests.{_below_}
 use Rattle.graph.specs.First.{dictionary, shorter, First}
-use Rattle.graph.proofs.Truth.{decide, not-both, to-false, to-true, and→, →and, or→, →or-left, →or-right, is→, →is, isnt→, →isnt, below→, →below, not-below→}
+use Rattle.graph.proofs.Truth.{decide, not-both, to-false, and→, →and, or→, →or-left, →or-right, is→, →is, below→, →below, not-below→}
 
 -- two lists neither of which comes before the other are one
 pub dictionary-same : (v w : List ℕ) → dictionary v w ≡ false → dictionary w v ≡ false → v ≡ w

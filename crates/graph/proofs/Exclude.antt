@@ -1,10 +1,9 @@
 -- A cycle and an order exclude each other: a graph with a cycle has no order that keeps every edge.
 use mathlib.Core.Path.{_≡_, refl}
-use mathlib.Core.Bool.{Bool, true, false}
+use mathlib.Core.Bool.{Bool, true}
 use mathlib.Core.List.{List, [], _∷_}
 use Prim.Native.Nat.{ℕ}
-use Rattle.graph.specs.Tests.{_and_, _implies_}
-use Rattle.graph.specs.Lists.{member, all, distinct, before}
+use Rattle.graph.specs.Lists.{member, distinct, before}
 use Rattle.graph.specs.First.{Never}
 use Rattle.graph.specs.Order.{keeps}
 use Rattle.graph.specs.Cycle.{leads, is-cycle}

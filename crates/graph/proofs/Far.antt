@@ -2,13 +2,13 @@
 use mathlib.Core.Path.{_≡_, refl, sym, ap, subst, fun-ext, _∙_}
 use mathlib.Core.Bool.{Bool, true, false}
 use mathlib.Core.Logic.{_⊎_, inl, inr, ⊎-elim}
-use mathlib.Core.List.{List, [], _∷_}
-use Prim.Native.Nat.{ℕ, zero, suc, _+_, _≤_, _<_}
+use mathlib.Core.List.{_∷_}
+use Prim.Native.Nat.{ℕ, suc, _+_, _≤_, _<_}
 use native.Mathlib.Omega.{arith}
 use native.Mathlib.Numerals.{add-one}
-use Rattle.graph.specs.Tests.{_is_, _below_, _and_, _or_, fails, if_then_else_, some, lowest}
+use Rattle.graph.specs.Tests.{_is_, _below_, _and_, some, lowest}
 use Rattle.graph.specs.Steps.{reach, pick, far, Marked, Near}
-use Rattle.graph.proofs.Truth.{decide, not-both, to-false, same-test, and→, →and, or→, →or-left, →or-right, or-no, is→, →is, isnt→, →isnt, below→, →below, not-below→, if-true, if-false, some→, →some, none→, →none, lowest-is, lowest-at, lowest-le, lowest-none, lowest-some, lowest-bound}
+use Rattle.graph.proofs.Truth.{decide, not-both, to-false, same-test, and→, →and, is→, →is, isnt→, below→, →below, not-below→, some→, →some, →none, lowest-is, lowest-at, lowest-le, lowest-none, lowest-some, lowest-bound}
 
 module _ (edge : ℕ → ℕ → Bool) where
   -- what `far` finds

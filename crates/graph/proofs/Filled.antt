@@ -1,16 +1,15 @@
 -- What stands after some turns of placing: what is placed goes before any first order of the rest.
-use mathlib.Core.Path.{_≡_, refl, sym, ap, subst, _∙_}
-use mathlib.Core.Bool.{Bool, true, false}
+use mathlib.Core.Path.{_≡_, sym, ap, _∙_}
+use mathlib.Core.Bool.{Bool, true}
 use mathlib.Core.List.{List, [], _∷_, _++_, append-nil, append-assoc}
-use Prim.Native.Nat.{ℕ, suc, _+_, _-_, _≤_, _<_}
+use Prim.Native.Nat.{ℕ, _+_, _≤_, _<_}
 use native.Mathlib.Omega.{arith}
 use lib.ListN.{length, set, length-set, length-append}
-use Rattle.graph.specs.Tests.{_upto_, _and_, fails, some, count, lowest}
+use Rattle.graph.specs.Tests.{_upto_, _and_, count, lowest}
 use Rattle.graph.specs.First.{dictionary, First}
-use Rattle.graph.specs.Cycle.{is-cycle}
 use Rattle.graph.specs.Matrix.{takes-part, joined, matrix-order}
-use Rattle.graph.specs.Steps.{may-begin, without, apart, unmarked, laid, Places}
-use Rattle.graph.proofs.Truth.{not-both, to-false, and→, →and, →fails, →upto, →none, none→, →some, lowest-is, lowest-le, lowest-some, lowest-none}
+use Rattle.graph.specs.Steps.{may-begin, apart, unmarked, laid, Places}
+use Rattle.graph.proofs.Truth.{not-both, to-false, →none}
 use Rattle.graph.proofs.Peel.{free→, apart→}
 use Rattle.graph.proofs.Marks.{part→, ends, no-loop, joined-apart, order-without}
 use Rattle.graph.proofs.Greedy.{cycle-more, first-none, first-next, stuck}

@@ -1,12 +1,12 @@
 -- To place, again and again, the lowest node that is free gives the first order in dictionary order; and where that comes to a stop
 -- there is a cycle. So every graph is shown one way or the other.
-use mathlib.Core.Path.{_≡_, refl, sym, subst, _∙_}
+use mathlib.Core.Path.{_≡_, refl, sym, _∙_}
 use mathlib.Core.Bool.{Bool, true, false}
-use mathlib.Core.Logic.{_⊎_, inl, inr, ⊎-elim}
+use mathlib.Core.Logic.{_⊎_, inl, inr}
 use mathlib.Core.List.{List, [], _∷_}
 use Prim.Native.Nat.{ℕ, zero, suc, _≤_, _<_}
 use native.Mathlib.Omega.{arith}
-use Rattle.graph.specs.Tests.{_below_, _and_, fails, some, count, lowest}
+use Rattle.graph.specs.Tests.{_below_, _and_, some, count, lowest}
 use Rattle.graph.specs.First.{dictionary, shorter, First, Never}
 use Rattle.graph.specs.Order.{is-order}
 use Rattle.graph.specs.Cycle.{leads, is-cycle}
@@ -15,7 +15,7 @@ use Rattle.graph.specs.Steps.{free, without, apart}
 use Rattle.graph.proofs.Truth.{decide, not-both, to-false, and→, →and, →fails, fails→, below→, →below, some→, →some, none→, lowest-is, lowest-le}
 use Rattle.graph.proofs.Judge.{nodes, node-there, first-cycle}
 use Rattle.graph.proofs.Walks.{stuck-cycle}
-use Rattle.graph.proofs.Peel.{free→, →free, without→, →without, apart→, →apart, peel, peel-none, count-without}
+use Rattle.graph.proofs.Peel.{free→, →free, →without, apart→, peel, peel-none, count-without}
 use Rattle.graph.proofs.Follow.{first-more}
 
 -- a cycle of fewer edges is one of more

@@ -1,21 +1,21 @@
 -- The verdicts, computed by trying every list: for small logs. What is computed is the answer that the definitions ask for.
-use mathlib.Core.Path.{_≡_, refl, sym, ap, subst, _∙_}
-use mathlib.Core.Bool.{Bool, true, false, true≢false, false≢true}
+use mathlib.Core.Path.{_≡_, refl}
+use mathlib.Core.Bool.{Bool, true, false≢true}
 use mathlib.Core.Logic.{_⊎_, inl, inr, ⊎-elim}
 use mathlib.Core.List.{List, [], _∷_}
 use mathlib.Core.Option.{Option, none, some}
-use Prim.Native.Nat.{ℕ, zero, suc, _+_, _≤_, _<_}
+use Prim.Native.Nat.{ℕ, suc, _+_, _≤_, _<_}
 use native.Mathlib.Omega.{arith}
 use lib.ListN.{length}
-use Rattle.graph.specs.Tests.{_below_, _upto_, _and_, _implies_, every, count}
+use Rattle.graph.specs.Tests.{count}
 use Rattle.graph.specs.Lists.{member, all, distinct}
-use Rattle.graph.specs.First.{dictionary, shorter, First, Never}
-use Rattle.graph.specs.Order.{once-each, keeps, is-order}
+use Rattle.graph.specs.First.{shorter, First, Never}
+use Rattle.graph.specs.Order.{once-each, is-order}
 use Rattle.graph.specs.Cycle.{leads, is-cycle}
 use Rattle.graph.specs.Shows.{Shown, order, cycle, Shows, shows-order, shows-cycle}
-use Rattle.graph.proofs.Truth.{decide, not-both, to-false, and→, →and, →fails, implies→, every→, →every, is→, →is, below→, →below, not-below→}
-use Rattle.graph.proofs.Places.{member→, all→, →all, member-head, member-tail}
-use Rattle.graph.proofs.Search.{rising, find-list, find-short, ascending, find-first, find-none, short-first, short-none}
+use Rattle.graph.proofs.Truth.{to-false, and→, →and, →fails, implies→, every→, below→}
+use Rattle.graph.proofs.Places.{all→, →all}
+use Rattle.graph.proofs.Search.{rising, find-list, find-short, ascending, find-first, short-first, short-none}
 use Rattle.graph.proofs.Pigeon.{pigeon, rising-distinct, ascending-rises, ascending-has, ascending-only, ascending-length}
 
 unfoldable pub shown-by : Option (List ℕ) → Option (List ℕ) → Option Shown

@@ -1,18 +1,18 @@
 -- The graph of a byte matrix and marks: its edges join vertices that take part, and to take a mark away takes the vertex away.
 use mathlib.Core.Path.{_≡_, refl, sym, ap, ap₂, fun-ext, _∙_}
 use mathlib.Core.Bool.{Bool, true, false}
-use mathlib.Core.Logic.{_⊎_, inl, inr, ⊎-elim}
+use mathlib.Core.Logic.{_⊎_, inl, inr}
 use mathlib.Core.List.{List, [], _∷_}
 use Prim.Native.Nat.{ℕ, suc, _+_, _-_, _*_, _≤_, _<_}
 use native.Mathlib.Omega.{arith}
 use native.Mathlib.Numerals.{add-one}
 use lib.ListN.{length, getD, drop, set, drop-of-length-le}
 use lib.Seq.{drop-cons, getD-set-same, getD-set-other}
-use Rattle.graph.specs.Tests.{_is_, _below_, _upto_, _and_, fails, some}
+use Rattle.graph.specs.Tests.{_and_, fails, some}
 use Rattle.graph.specs.Matrix.{takes-part, joined, matrix-order}
 use Rattle.graph.specs.Order.{is-order}
 use Rattle.graph.specs.Steps.{free, without, apart, unmarked}
-use Rattle.graph.proofs.Truth.{decide, not-both, to-false, same-test, and→, →and, and-no-left, →fails, fails→, is→, →is, isnt→, →isnt, upto→, →upto}
+use Rattle.graph.proofs.Truth.{decide, to-false, same-test, and→, →and, and-no-left, →fails, fails→, isnt→, →isnt, upto→, →upto}
 use Rattle.graph.proofs.Peel.{without→, →without, apart→, →apart, peel, peel-none, free→}
 
 pub record Part (n : ℕ) (part : List ℕ) (v : ℕ) : Type 0 where

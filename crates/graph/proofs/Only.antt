@@ -1,8 +1,8 @@
 -- The statements allow one answer: what is first is one, and so is what is shown of a graph.
-use mathlib.Core.Path.{_≡_, refl, sym, ap, subst, _∙_}
+use mathlib.Core.Path.{_≡_, refl, sym, ap, _∙_}
 use mathlib.Core.Bool.{Bool}
 use mathlib.Core.List.{List}
-use mathlib.Core.Option.{Option, none, some as just}
+use mathlib.Core.Option.{Option, some as just}
 use Prim.Native.Nat.{ℕ}
 use Rattle.graph.specs.Lists.{entries}
 use Rattle.graph.specs.First.{dictionary, shorter, First, Never, Earliest, earliest, not-any}

@@ -5,11 +5,11 @@ use mathlib.Core.Logic.{_⊎_, inl, inr, ⊎-elim}
 use mathlib.Core.List.{List, [], _∷_}
 use Prim.Native.Nat.{ℕ, zero, suc, _<_}
 use native.Mathlib.Omega.{arith}
-use Rattle.graph.specs.Tests.{_is_, _below_, _and_, _implies_, fails, some, every, count, if_then_else_}
+use Rattle.graph.specs.Tests.{_is_, _below_, _and_, fails, some, count, if_then_else_}
 use Rattle.graph.specs.Lists.{member, all, distinct, before}
 use Rattle.graph.specs.Order.{once-each, keeps, is-order}
 use Rattle.graph.specs.Steps.{free, without, apart}
-use Rattle.graph.proofs.Truth.{decide, not-both, to-false, to-true, same-test, and→, →and, →fails, fails→, →implies, implies→, is→, →is, isnt→, →isnt, below→, →below, not-below→, if-true, if-false, some→, →some, none→, →none, every→, →every}
+use Rattle.graph.proofs.Truth.{decide, not-both, to-false, same-test, and→, →and, →fails, fails→, →implies, implies→, is→, isnt→, →isnt, below→, →below, not-below→, if-true, if-false, none→, →none, every→, →every}
 use Rattle.graph.proofs.Places.{member→, all→, →all, member-head, member-tail, distinct→, before→, before-head, before-tail, none-before-head}
 
 pub record Free (n : ℕ) (node : ℕ → Bool) (edge : ℕ → ℕ → Bool) (b : ℕ) : Type 0 where

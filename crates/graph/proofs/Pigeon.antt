@@ -1,14 +1,14 @@
 -- A list of different members of cs is no longer than cs.
-use mathlib.Core.Path.{_≡_, refl, sym, ap, subst, _∙_}
-use mathlib.Core.Bool.{Bool, true, false, true≢false, false≢true}
+use mathlib.Core.Path.{_≡_, refl, sym, ap, _∙_}
+use mathlib.Core.Bool.{Bool, true, false, false≢true}
 use mathlib.Core.Logic.{_⊎_, inl, inr, ⊎-elim}
 use mathlib.Core.List.{List, [], _∷_}
 use Prim.Native.Nat.{ℕ, zero, suc, _+_, _≤_, _<_}
 use native.Mathlib.Omega.{arith}
 use lib.ListN.{length}
-use Rattle.graph.specs.Tests.{_is_, _below_, _and_, _or_, if_then_else_, count}
-use Rattle.graph.specs.Lists.{member, all, distinct}
-use Rattle.graph.proofs.Truth.{decide, not-both, to-false, and→, →and, →fails, is→, →is, isnt→, →isnt, below→, →below, not-below→, if-true, if-false}
+use Rattle.graph.specs.Tests.{_is_, _below_, if_then_else_, count}
+use Rattle.graph.specs.Lists.{member, distinct}
+use Rattle.graph.proofs.Truth.{decide, not-both, to-false, and→, →and, →fails, is→, isnt→, below→, →below, not-below→, if-true, if-false}
 use Rattle.graph.proofs.Places.{member→, all→, →all, member-head, member-tail, distinct→}
 use Rattle.graph.proofs.Search.{rising, ascending}
 

@@ -1,12 +1,12 @@
 -- Members of a list of different numbers, and their places.
-use mathlib.Core.Path.{_≡_, refl, sym, ap, subst, _∙_}
-use mathlib.Core.Bool.{Bool, true, false, true≢false, false≢true}
+use mathlib.Core.Path.{_≡_, refl, sym, _∙_}
+use mathlib.Core.Bool.{Bool, true, false, false≢true}
 use mathlib.Core.Logic.{_⊎_, inl, inr, ⊎-elim}
 use mathlib.Core.List.{List, [], _∷_}
-use Prim.Native.Nat.{ℕ, zero, suc}
-use Rattle.graph.specs.Tests.{_is_, _and_, _or_, fails}
+use Prim.Native.Nat.{ℕ}
+use Rattle.graph.specs.Tests.{_is_, _and_}
 use Rattle.graph.specs.Lists.{member, all, distinct, before}
-use Rattle.graph.proofs.Truth.{decide, not-both, to-false, and→, →and, or→, →or-left, →or-right, fails→, →fails, is→, →is, isnt→}
+use Rattle.graph.proofs.Truth.{not-both, and→, →and, or→, →or-left, →or-right, fails→, is→, →is}
 
 pub member-head : (a : ℕ) (w : List ℕ) → member a (a ∷ w) ≡ true
 unfolding member

@@ -1,19 +1,17 @@
 -- The shortest closed walks: the least of all starts, and the walk traced from there, are the first shortest cycle.
 use mathlib.Core.Path.{_≡_, refl, sym, ap, subst, _∙_}
-use mathlib.Core.Bool.{Bool, true, false, false≢true}
-use mathlib.Core.Logic.{_⊎_, inl, inr, ⊎-elim}
+use mathlib.Core.Bool.{Bool, true, false≢true}
 use mathlib.Core.List.{List, [], _∷_, _++_, append-nil, append-assoc}
 use Prim.Native.Nat.{ℕ, zero, suc, _+_, _-_, _≤_, _<_}
 use native.Mathlib.Omega.{arith}
-use native.Mathlib.Numerals.{add-one}
 use lib.ListN.{length, set, length-append}
 use borrow.Author.Count.{below-more}
-use Rattle.graph.specs.Tests.{_is_, _below_, _and_, some, lowest}
+use Rattle.graph.specs.Tests.{_is_, _below_, _and_, lowest}
 use Rattle.graph.specs.First.{shorter, First}
 use Rattle.graph.specs.Cycle.{is-cycle}
 use Rattle.graph.specs.Steps.{reach, pick, far, laid, Near, Least}
 use Rattle.graph.proofs.Truth.{to-false, and→, some→}
-use Rattle.graph.proofs.Shortest.{Way, way-reach, cycle-way, pick-way, shortest-first}
+use Rattle.graph.proofs.Shortest.{way-reach, cycle-way, pick-way, shortest-first}
 use Rattle.graph.proofs.Far.{far-reach, far-le, far-bound, onward-pick}
 use Rattle.graph.proofs.Laid.{laid-none, laid-more}
 

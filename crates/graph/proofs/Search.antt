@@ -1,19 +1,19 @@
 -- Search through all lists over some candidates: in dictionary order, and by length. What it finds is the first that passes.
-use mathlib.Core.Path.{_≡_, refl, sym, ap, subst, _∙_}
-use mathlib.Core.Bool.{Bool, true, false, true≢false, false≢true}
-use mathlib.Core.Logic.{_⊎_, inl, inr, ⊎-elim}
+use mathlib.Core.Path.{_≡_, refl, sym, ap, _∙_}
+use mathlib.Core.Bool.{Bool, true, false, false≢true}
+use mathlib.Core.Logic.{_⊎_, inl, inr}
 use mathlib.Core.List.{List, [], _∷_}
 use mathlib.Core.Option.{Option, none, some}
 use Prim.Native.Nat.{ℕ, zero, suc, _≤_, _<_}
 use native.Mathlib.Nat.{not-suc-le-zero}
 use native.Mathlib.Omega.{arith}
 use lib.ListN.{length}
-use Rattle.graph.specs.Tests.{_is_, _below_, _and_, _or_, if_then_else_}
+use Rattle.graph.specs.Tests.{_below_, _and_, if_then_else_}
 use Rattle.graph.specs.Lists.{member, all}
 use Rattle.graph.specs.First.{dictionary, shorter, First}
-use Rattle.graph.proofs.Truth.{decide, not-both, to-false, to-true, and→, →and, or→, →or-left, →or-right, is→, →is, isnt→, →isnt, below→, →below, not-below→, →not-below, if-true, if-false}
+use Rattle.graph.proofs.Truth.{decide, to-false, and→, below→, not-below→}
 use Rattle.graph.proofs.Dictionary.{dictionary-not, shorter-not}
-use Rattle.graph.proofs.Places.{member→, all→, →all, member-head, member-tail}
+use Rattle.graph.proofs.Places.{member→, all→}
 
 -- the first of two that is there
 unfoldable pub or-else : Option (List ℕ) → Option (List ℕ) → Option (List ℕ)

@@ -1,18 +1,18 @@
 -- The first shortest cycle, found by layers: how far each node is from s through nodes above s, and then the lowest way on at each step.
-use mathlib.Core.Path.{_≡_, refl, sym, ap, subst, _∙_}
-use mathlib.Core.Bool.{Bool, true, false, true≢false, false≢true}
-use mathlib.Core.Logic.{_⊎_, inl, inr, ⊎-elim}
+use mathlib.Core.Path.{_≡_, refl, ap, subst, _∙_}
+use mathlib.Core.Bool.{Bool, true, false, false≢true}
+use mathlib.Core.Logic.{⊎-elim}
 use mathlib.Core.List.{List, [], _∷_, _++_}
 use Prim.Native.Nat.{ℕ, zero, suc, _+_, _≤_, _<_}
 use native.Mathlib.Omega.{arith}
 use lib.ListN.{length, length-append}
-use Rattle.graph.specs.Tests.{_is_, _below_, _upto_, _and_, _or_, fails, some, lowest}
-use Rattle.graph.specs.Lists.{member, all, distinct}
+use Rattle.graph.specs.Tests.{_below_, _and_, lowest}
+use Rattle.graph.specs.Lists.{all, distinct}
 use Rattle.graph.specs.First.{dictionary, shorter, First}
 use Rattle.graph.specs.Cycle.{leads, is-cycle}
 use Rattle.graph.specs.Steps.{reach, pick}
-use Rattle.graph.proofs.Truth.{decide, not-both, to-false, to-true, and→, →and, →fails, fails→, is→, →is, isnt→, below→, →below, not-below→, →upto, some→, →some, none→, lowest-is, lowest-le}
-use Rattle.graph.proofs.Places.{member→, all→, →all, member-head, member-tail, distinct→}
+use Rattle.graph.proofs.Truth.{decide, not-both, to-true, and→, →and, below→, not-below→, →upto, →some, lowest-is, lowest-le}
+use Rattle.graph.proofs.Places.{distinct→}
 use Rattle.graph.proofs.Dictionary.{dictionary-not, shorter-not}
 use Rattle.graph.proofs.Walks.{twice, leads-cut, closed-cycle}
 

@@ -1,13 +1,13 @@
 -- An order has as many members as vertices take part, and a cycle at most so many; a graph that has an order has no cycle.
-use mathlib.Core.Path.{_≡_, refl, sym, ap, _∙_}
-use mathlib.Core.Bool.{Bool, true, false}
+use mathlib.Core.Path.{_≡_, sym, ap, _∙_}
+use mathlib.Core.Bool.{true}
 use mathlib.Core.List.{List, [], _∷_}
-use Prim.Native.Nat.{ℕ, suc, _+_, _≤_, _<_}
+use Prim.Native.Nat.{ℕ, suc, _≤_}
 use native.Mathlib.Omega.{arith}
 use lib.ListN.{length, length-set}
-use Rattle.graph.specs.Tests.{_and_, fails, some, count}
+use Rattle.graph.specs.Tests.{count}
 use Rattle.graph.specs.First.{Never}
-use Rattle.graph.specs.Order.{keeps, is-order}
+use Rattle.graph.specs.Order.{is-order}
 use Rattle.graph.specs.Cycle.{is-cycle}
 use Rattle.graph.specs.Matrix.{takes-part, joined, matrix-order}
 use Rattle.graph.specs.Steps.{unmarked}

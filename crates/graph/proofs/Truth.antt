@@ -1,13 +1,13 @@
 -- Laws of the tests of specs/Tests.antt. A test passes when it is `≡ true`.
-use mathlib.Core.Path.{_≡_, refl, sym, ap, subst, _∙_}
+use mathlib.Core.Path.{_≡_, refl, sym, _∙_}
 use mathlib.Core.Bool.{Bool, true, false, not, true≢false, false≢true}
 use mathlib.Core.Logic.{_⊎_, inl, inr, ⊎-elim}
 use Prim.Native.Nat.{ℕ, zero, suc, _+_, _≤_, _<_}
 use native.Mathlib.Omega.{arith}
 use native.Mathlib.Nat.{not-suc-le-zero}
 use native.Mathlib.Numerals.{add-one}
-use borrow.Author.Tests.{ltb-true, ltb-false, leb-true, leb-false, eqb-true, eqb-false, lt-ltb, le-ltb, le-leb, lt-leb, eq-eqb, ne-eqb}
-use Rattle.graph.specs.Tests.{_is_, _below_, _upto_, _and_, _or_, _implies_, fails, if_then_else_, some, every, count, lowest, highest}
+use borrow.Author.Tests.{ltb-true, ltb-false, leb-true, eqb-true, eqb-false, lt-ltb, le-ltb, le-leb, eq-eqb, ne-eqb}
+use Rattle.graph.specs.Tests.{_is_, _below_, _upto_, _and_, _or_, _implies_, fails, if_then_else_, some, every, count, lowest}
 
 -- a test passes or fails
 pub decide : (b : Bool) → (b ≡ true) ⊎ (b ≡ false)

@@ -3,7 +3,7 @@ use mathlib.Core.Path.{_≡_, refl, sym, ap, subst, _∙_}
 use mathlib.Core.Bool.{Bool, true, false, false≢true}
 use mathlib.Core.List.{List, [], _∷_}
 use mathlib.Core.Option.{Option, none, some as just}
-use Prim.Native.Nat.{ℕ, suc, _+_, _≤_, _<_}
+use Prim.Native.Nat.{ℕ, _+_, _≤_, _<_}
 use native.Mathlib.Omega.{arith}
 use native.Mathlib.Numerals.{add-one}
 use lib.ListN.{length, getD, drop, set, length-drop, drop-of-length-le}
@@ -15,10 +15,10 @@ use Rattle.graph.specs.Matrix.{takes-part, joined, matrix-order, later-m
 use Rattle.graph.specs.Steps.{may-begin, unmarked, laid, until, Places, Followed}
 use Rattle.graph.proofs.Truth.{not-both, to-false, and→, fails→, none→}
 use Rattle.graph.proofs.Peel.{free→, apart→}
-use Rattle.graph.proofs.Marks.{Part, part→, ends, joined-apart, matrix-peel, matrix-none}
+use Rattle.graph.proofs.Marks.{Part, part→, joined-apart, matrix-peel, matrix-none}
 use Rattle.graph.proofs.Follow.{later-same, later-other, later-none, later-end}
 use Rattle.graph.proofs.Greedy.{cycle-more}
-use Rattle.graph.proofs.Sized.{part-less, order-size, order-acyclic}
+use Rattle.graph.proofs.Sized.{order-size, order-acyclic}
 use Rattle.graph.proofs.Begins.{Lowest, lowest→, none-begins}
 use Rattle.graph.proofs.Laid.{laid-none, laid-last, laid-front}
 

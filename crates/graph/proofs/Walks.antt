@@ -6,11 +6,11 @@ use mathlib.Core.List.{List, [], _∷_, _++_, append-nil}
 use Prim.Native.Nat.{ℕ, zero, suc, _+_, _≤_, _<_}
 use native.Mathlib.Omega.{arith}
 use lib.ListN.{length, length-append}
-use Rattle.graph.specs.Tests.{_is_, _below_, _upto_, _and_, _or_, fails}
-use Rattle.graph.specs.Lists.{member, all, distinct}
+use Rattle.graph.specs.Tests.{_below_}
+use Rattle.graph.specs.Lists.{member, distinct}
 use Rattle.graph.specs.Cycle.{leads, is-cycle}
-use Rattle.graph.proofs.Truth.{decide, not-both, to-false, to-true, and→, →and, →fails, fails→, is→, →is, isnt→, below→, →below, not-below→, →upto}
-use Rattle.graph.proofs.Places.{member→, all→, →all, member-head, member-tail, distinct→}
+use Rattle.graph.proofs.Truth.{decide, not-both, to-false, and→, →and, →fails, fails→, below→, →below, not-below→, →upto}
+use Rattle.graph.proofs.Places.{member→, →all, member-head, member-tail, distinct→}
 use Rattle.graph.proofs.Pigeon.{pigeon}
 
 -- a member splits the list

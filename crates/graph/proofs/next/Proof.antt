@@ -1,4 +1,4 @@
-use mathlib.Core.Path.{_≡_, refl, sym, ap, _∙_}
+use mathlib.Core.Path.{_≡_, ap, _∙_}
 use native.Mathlib.Omega.{arith}
 use lib.ListN.{length}
 use Rattle.graph.specs.Lists.{zeros}
@@ -6,10 +6,6 @@ use Rattle.graph.proofs.Answers.{order-short, next-nothing, next-found}
 use borrow.Author.Needs.{needs}
 use Rattle.graph.proofs.next.Statement.{statement}
 use Rattle.graph.proofs.next.Tie as tie
-use Rattle.graph.proofs.next.Reads as reads
-use Rattle.graph.proofs.next.Lts as lts
-use Rattle.graph.proofs.onward.follow.Reads as follow-reads
-use Rattle.graph.proofs.order.clear.Reads as clear-reads
 
 clear-requires : tie.Need-clear-requires
 clear-requires c κs = search needs

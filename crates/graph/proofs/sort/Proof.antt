@@ -1,4 +1,4 @@
-use mathlib.Core.Path.{_≡_, refl, sym, ap, _∙_}
+use mathlib.Core.Path.{_≡_, sym, ap, _∙_}
 use native.Mathlib.Omega.{arith}
 use lib.ListN.{length}
 use Rattle.graph.specs.Lists.{zeros}
@@ -7,12 +7,6 @@ use Rattle.graph.proofs.Answers.{sort-order, sort-cycle}
 use borrow.Author.Needs.{needs}
 use Rattle.graph.proofs.sort.Statement.{statement}
 use Rattle.graph.proofs.sort.Tie as tie
-use Rattle.graph.proofs.sort.Reads as reads
-use Rattle.graph.proofs.sort.Lts as lts
-use Rattle.graph.proofs.cycle.cycle.Reads as cycle-reads
-use Rattle.graph.proofs.left.some_left.Reads as some-left-reads
-use Rattle.graph.proofs.order.clear.Reads as clear-reads
-use Rattle.graph.proofs.order.place.Reads as place-reads
 
 clear-requires : tie.Need-clear-requires
 clear-requires c κs = search needs

@@ -1,15 +1,11 @@
-use mathlib.Core.Path.{_≡_, refl, sym, ap, subst, _∙_}
 use mathlib.Core.Logic.{⊎-elim}
-use Prim.Native.Nat.{ℕ, _+_, _≤_, _-_}
+use Prim.Native.Nat.{_≤_, _-_}
 use native.Mathlib.Omega.{arith}
 use Rattle.graph.specs.Matrix.{joined}
 use Rattle.graph.specs.Steps.{Least}
 use Rattle.graph.proofs.Ring.{least-none, least-lower, least-same, least-all}
 use Rattle.graph.proofs.cycle.best.Statement.{statement}
 use Rattle.graph.proofs.cycle.best.Tie as tie
-use Rattle.graph.proofs.cycle.best.Reads as reads
-use Rattle.graph.proofs.cycle.best.Lts as lts
-use Rattle.graph.proofs.cycle.distances.Reads as distances-reads
 
 abbrev Inv-loop : tie.InvT-loop
 Inv-loop m part len₀ start₀ s₀ len start s = (1 ≤ s) × (s ≤ 129) × Least (joined 128 m part) s len start

@@ -1,15 +1,9 @@
-use mathlib.Core.Path.{_≡_, refl, sym, ap, _∙_}
 use native.Mathlib.Omega.{arith}
 use lib.ListN.{length-set}
 use Rattle.graph.proofs.Answers.{ring-found, ring-cycled}
 use borrow.Author.Needs.{needs}
 use Rattle.graph.proofs.cycle.cycle.Statement.{statement}
 use Rattle.graph.proofs.cycle.cycle.Tie as tie
-use Rattle.graph.proofs.cycle.cycle.Reads as reads
-use Rattle.graph.proofs.cycle.cycle.Lts as lts
-use Rattle.graph.proofs.cycle.best.Reads as best-reads
-use Rattle.graph.proofs.cycle.distances.Reads as distances-reads
-use Rattle.graph.proofs.cycle.trace.Reads as trace-reads
 
 best-requires : tie.Need-best-requires
 best-requires c κs = search needs

@@ -1,18 +1,12 @@
-use mathlib.Core.Path.{_≡_, refl, sym, ap, subst, _∙_}
-use Prim.Native.Nat.{ℕ, _+_, _≤_, _-_}
+use Prim.Native.Nat.{_+_, _≤_, _-_}
 use native.Mathlib.Omega.{arith}
-use lib.ListN.{length, getD-replicate}
-use borrow.Author.Needs.{needs}
+use lib.ListN.{getD-replicate}
 use Rattle.graph.specs.Matrix.{joined}
 use Rattle.graph.specs.Steps.{entry, Near}
 use Rattle.graph.proofs.Marks.{ends-to}
 use Rattle.graph.proofs.Far.{near-one, near-more, near-at}
 use Rattle.graph.proofs.cycle.distances.Statement.{statement}
 use Rattle.graph.proofs.cycle.distances.Tie as tie
-use Rattle.graph.proofs.cycle.distances.Reads as reads
-use Rattle.graph.proofs.cycle.distances.Lts as lts
-use Rattle.graph.proofs.cycle.layer.Reads as layer-reads
-use Rattle.graph.proofs.cycle.spread.Reads as spread-reads
 
 abbrev Inv-loop : tie.InvT-loop
 Inv-loop m part s dist₀ d₀ dist d = (d ≤ 127) × Near (joined 128 m part) s (d + 1) (entry dist)

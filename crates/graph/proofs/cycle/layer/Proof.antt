@@ -1,11 +1,7 @@
-use mathlib.Core.Path.{_≡_, refl, sym, ap, subst, _∙_}
-use mathlib.Core.Bool.{Bool, true, false}
+use mathlib.Core.Path.{_≡_, refl, sym, _∙_}
 use mathlib.Core.Logic.{inr, ⊎-elim}
-use mathlib.Core.List.{List}
-use Prim.Native.Nat.{ℕ, _+_, _≤_, _-_}
+use Prim.Native.Nat.{_+_, _≤_, _-_}
 use native.Mathlib.Omega.{arith}
-use lib.ListN.{length}
-use borrow.Author.Needs.{needs}
 use Rattle.graph.specs.Tests.{_is_, _below_, _and_, some}
 use Rattle.graph.specs.Matrix.{joined}
 use Rattle.graph.specs.Steps.{entry, Marked}
@@ -14,9 +10,6 @@ use Rattle.graph.proofs.Marks.{zero-out, joined→}
 use Rattle.graph.proofs.Layers.{marked-old, marked-for, marked-past, marked-last}
 use Rattle.graph.proofs.cycle.layer.Statement.{statement}
 use Rattle.graph.proofs.cycle.layer.Tie as tie
-use Rattle.graph.proofs.cycle.layer.Reads as reads
-use Rattle.graph.proofs.cycle.layer.Lts as lts
-use Rattle.graph.proofs.cycle.spread.Reads as spread-reads
 
 abbrev Inv-loop : tie.InvT-loop
 Inv-loop m part s d next₀ u₀ next u = (1 ≤ u) × (u ≤ 129) × Marked (λ t. some u (λ x. s below x and entry next₀ x is d and joined 128 m part t x)) (d + 1) (entry next₀) (entry next)

@@ -1,7 +1,7 @@
-use mathlib.Core.Path.{_≡_, refl, sym, _∙_}
-use mathlib.Core.Bool.{Bool, true, false}
+use mathlib.Core.Path.{_≡_, sym, _∙_}
+use mathlib.Core.Bool.{false}
 use mathlib.Core.Logic.{⊎-elim}
-use Prim.Native.Nat.{ℕ, _<_, _≤_, _-_}
+use Prim.Native.Nat.{_<_, _≤_, _-_}
 use native.Mathlib.Omega.{arith}
 use Rattle.graph.specs.Tests.{_is_, _below_, _and_, some}
 use Rattle.graph.specs.Matrix.{joined}
@@ -9,9 +9,6 @@ use Rattle.graph.specs.Steps.{entry}
 use Rattle.graph.proofs.Truth.{to-false, and→, →and, and-no-left, and-no-right, below→, →below, →is, →isnt, →none, none-next, none-below, lowest-found, lowest-none}
 use Rattle.graph.proofs.cycle.nearer.Statement.{statement}
 use Rattle.graph.proofs.cycle.nearer.Tie as tie
-use Rattle.graph.proofs.cycle.nearer.Reads as reads
-use Rattle.graph.proofs.cycle.nearer.Lts as lts
-use Rattle.graph.proofs.left.joins.Reads as joins-reads
 
 abbrev Inv-loop : tie.InvT-loop
 Inv-loop m part dist s a k u₀ u = (s < u) × (u ≤ 129) × (some u (λ x. s below x and joined 128 m part a x and entry dist x is k) ≡ false)

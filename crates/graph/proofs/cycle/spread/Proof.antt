@@ -1,21 +1,16 @@
-use mathlib.Core.Path.{_≡_, refl, sym, ap, subst, _∙_}
-use mathlib.Core.Bool.{Bool, true, false}
+use mathlib.Core.Path.{_≡_, refl, sym, ap, _∙_}
 use mathlib.Core.Logic.{inr, ⊎-elim}
-use mathlib.Core.List.{List}
-use Prim.Native.Nat.{ℕ, _≤_, _-_}
+use Prim.Native.Nat.{_≤_, _-_}
 use native.Mathlib.Omega.{arith}
 use lib.ListN.{length, length-set}
 use borrow.Author.Needs.{needs}
 use Rattle.graph.specs.Tests.{_below_, _and_}
 use Rattle.graph.specs.Matrix.{joined}
 use Rattle.graph.specs.Steps.{entry, Marked}
-use Rattle.graph.proofs.Truth.{to-false, and→, →and, below→, →below}
+use Rattle.graph.proofs.Truth.{to-false, and→, below→}
 use Rattle.graph.proofs.Layers.{marked-here, marked-not, marked-all}
 use Rattle.graph.proofs.cycle.spread.Statement.{statement}
 use Rattle.graph.proofs.cycle.spread.Tie as tie
-use Rattle.graph.proofs.cycle.spread.Reads as reads
-use Rattle.graph.proofs.cycle.spread.Lts as lts
-use Rattle.graph.proofs.left.joins.Reads as joins-reads
 
 abbrev Inv-loop : tie.InvT-loop
 Inv-loop m part v mark next₀ u₀ next u = (1 ≤ u) × (u ≤ 129) × (length next ≡ 128) × Marked (λ t. t below u and joined 128 m part t v) mark (entry next₀) (entry next)

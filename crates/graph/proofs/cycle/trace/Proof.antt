@@ -1,17 +1,12 @@
-use mathlib.Core.Path.{_≡_, refl, sym, ap, subst, _∙_}
-use Prim.Native.Nat.{ℕ, _+_, _≤_, _-_}
+use mathlib.Core.Path.{_≡_, sym, _∙_}
+use Prim.Native.Nat.{_≤_, _-_}
 use native.Mathlib.Omega.{arith}
 use lib.ListN.{length, set, length-set}
-use borrow.Author.Needs.{needs}
 use Rattle.graph.specs.Matrix.{joined}
-use Rattle.graph.specs.Steps.{entry, Near}
 use Rattle.graph.proofs.Marks.{ends-to}
 use Rattle.graph.proofs.Ring.{Traced, traced-none, traced-more, traced-all}
 use Rattle.graph.proofs.cycle.trace.Statement.{statement}
 use Rattle.graph.proofs.cycle.trace.Tie as tie
-use Rattle.graph.proofs.cycle.trace.Reads as reads
-use Rattle.graph.proofs.cycle.trace.Lts as lts
-use Rattle.graph.proofs.cycle.nearer.Reads as nearer-reads
 
 abbrev Inv-loop : tie.InvT-loop
 Inv-loop out₀ m part dist s len a₀ k₀ out a k = (length out ≡ 128) × (k ≤ len) × Traced (joined 128 m part) s len out₀ a k out

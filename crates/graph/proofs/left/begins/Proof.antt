@@ -1,6 +1,6 @@
-use mathlib.Core.Path.{_≡_, refl, sym, ap, _∙_}
+use mathlib.Core.Path.{sym, ap, _∙_}
 use native.Mathlib.Omega.{arith}
-use Rattle.graph.specs.Tests.{_below_, _and_, fails}
+use Rattle.graph.specs.Tests.{fails}
 use Rattle.graph.specs.Steps.{free}
 use Rattle.graph.proofs.Truth.{to-false, not-fails, and-yes, →and, →below}
 use Rattle.graph.proofs.Peel.{free→}
@@ -8,9 +8,6 @@ use Rattle.graph.proofs.Marks.{part→, →part}
 use borrow.Author.Needs.{needs}
 use Rattle.graph.proofs.left.begins.Statement.{statement}
 use Rattle.graph.proofs.left.begins.Tie as tie
-use Rattle.graph.proofs.left.begins.Reads as reads
-use Rattle.graph.proofs.left.begins.Lts as lts
-use Rattle.graph.proofs.left.blocked.Reads as blocked-reads
 
 returns : tie.Need-returns
 returns c = sym (to-false _ (λ h. omega (arith, part→ 128 _ _ (free→ h .is-node) .low)))

@@ -1,6 +1,6 @@
 use mathlib.Core.Path.{_≡_, refl, sym, _∙_}
-use mathlib.Core.Bool.{Bool, true, false}
-use Prim.Native.Nat.{ℕ, _≤_, _-_}
+use mathlib.Core.Bool.{false}
+use Prim.Native.Nat.{_≤_, _-_}
 use native.Mathlib.Omega.{arith}
 use Rattle.graph.specs.Tests.{some}
 use Rattle.graph.specs.Matrix.{joined}
@@ -8,9 +8,6 @@ use Rattle.graph.proofs.Marks.{zero-out, joined→}
 use Rattle.graph.proofs.Truth.{not-both, to-false, →some, none-next, none-below}
 use Rattle.graph.proofs.left.blocked.Statement.{statement}
 use Rattle.graph.proofs.left.blocked.Tie as tie
-use Rattle.graph.proofs.left.blocked.Reads as reads
-use Rattle.graph.proofs.left.blocked.Lts as lts
-use Rattle.graph.proofs.left.joins.Reads as joins-reads
 
 abbrev Inv-loop : tie.InvT-loop
 Inv-loop m left b a₀ a = (1 ≤ a) × (a ≤ 129) × (some a (λ x. joined 128 m left x b) ≡ false)

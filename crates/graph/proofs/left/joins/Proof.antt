@@ -1,14 +1,12 @@
+use Rattle.graph.specs.Tests.{_is_}
 use Rattle.graph.specs.Matrix.{joined}
-use Rattle.graph.specs.Tests.{_is_, _and_, fails}
-use mathlib.Core.Path.{_≡_, refl, sym, subst, _∙_}
+use mathlib.Core.Path.{sym, _∙_}
 use native.Mathlib.Omega.{arith}
 use Rattle.graph.proofs.Truth.{to-false, not-fails, and-yes, →and, →fails, →isnt}
-use Rattle.graph.proofs.Marks.{joined→, →joined, part→, →part}
+use Rattle.graph.proofs.Marks.{joined→, part→, →part}
 use borrow.Author.Needs.{needs}
 use Rattle.graph.proofs.left.joins.Statement.{statement}
 use Rattle.graph.proofs.left.joins.Tie as tie
-use Rattle.graph.proofs.left.joins.Reads as reads
-use Rattle.graph.proofs.left.joins.Lts as lts
 
 returns : tie.Need-returns
 returns c = sym (to-false _ (λ h. joined→ 128 _ _ _ _ h .differ (c .if1 .taken)))

@@ -1,15 +1,12 @@
 use mathlib.Core.Path.{_≡_, sym, _∙_}
-use mathlib.Core.Bool.{Bool, true, false}
-use Prim.Native.Nat.{ℕ, _≤_, _<_, _-_}
+use mathlib.Core.Bool.{false}
+use Prim.Native.Nat.{_≤_, _-_}
 use native.Mathlib.Omega.{arith}
 use Rattle.graph.specs.Tests.{_upto_, _and_, some}
 use Rattle.graph.specs.Steps.{may-begin}
 use Rattle.graph.proofs.Truth.{to-false, and→, →and, and-no-right, upto→, →upto, →none, none-next, none-below, lowest-found, lowest-none}
 use Rattle.graph.proofs.left.lowest_beginning.Statement.{statement}
 use Rattle.graph.proofs.left.lowest_beginning.Tie as tie
-use Rattle.graph.proofs.left.lowest_beginning.Reads as reads
-use Rattle.graph.proofs.left.lowest_beginning.Lts as lts
-use Rattle.graph.proofs.left.begins.Reads as begins-reads
 
 abbrev Inv-loop : tie.InvT-loop
 Inv-loop m left start v₀ v = (start ≤ v) × (v ≤ 129) × (some v (λ x. start upto x and may-begin m left x) ≡ false)

@@ -1,15 +1,13 @@
-use mathlib.Core.Path.{_≡_, refl, sym, _∙_}
-use mathlib.Core.Bool.{Bool, true, false}
-use Prim.Native.Nat.{ℕ, _≤_, _-_}
+use mathlib.Core.Path.{_≡_, refl, sym}
+use mathlib.Core.Bool.{false}
+use Prim.Native.Nat.{_≤_, _-_}
 use native.Mathlib.Omega.{arith}
 use Rattle.graph.specs.Tests.{some}
 use Rattle.graph.specs.Matrix.{takes-part}
-use Rattle.graph.proofs.Truth.{not-both, to-false, →some, none-next, none-below}
+use Rattle.graph.proofs.Truth.{to-false, →some, none-next, none-below}
 use Rattle.graph.proofs.Marks.{zero-out, part→, →part}
 use Rattle.graph.proofs.left.some_left.Statement.{statement}
 use Rattle.graph.proofs.left.some_left.Tie as tie
-use Rattle.graph.proofs.left.some_left.Reads as reads
-use Rattle.graph.proofs.left.some_left.Lts as lts
 
 abbrev Inv-loop : tie.InvT-loop
 Inv-loop left v₀ v = (1 ≤ v) × (v ≤ 129) × (some v (takes-part 128 left) ≡ false)

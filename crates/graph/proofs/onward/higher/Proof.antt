@@ -1,7 +1,7 @@
-use mathlib.Core.Path.{_≡_, refl, sym, ap, _∙_}
-use Prim.Native.Nat.{ℕ, suc, _≤_}
+use mathlib.Core.Path.{_≡_}
+use Prim.Native.Nat.{suc, _≤_}
 use native.Mathlib.Omega.{arith}
-use lib.ListN.{length, set, length-set}
+use lib.ListN.{length, length-set}
 use Rattle.graph.specs.Tests.{count}
 use Rattle.graph.specs.Matrix.{takes-part}
 use Rattle.graph.specs.Steps.{unmarked}
@@ -10,10 +10,6 @@ use Rattle.graph.proofs.Turn.{turn-none, turn-other}
 use borrow.Author.Needs.{needs}
 use Rattle.graph.proofs.onward.higher.Statement.{statement}
 use Rattle.graph.proofs.onward.higher.Tie as tie
-use Rattle.graph.proofs.onward.higher.Reads as reads
-use Rattle.graph.proofs.onward.higher.Lts as lts
-use Rattle.graph.proofs.left.lowest_beginning.Reads as lowest-beginning-reads
-use Rattle.graph.proofs.order.place.Reads as place-reads
 
 add-lowest-beginning : tie.Need-add-lowest-beginning
 add-lowest-beginning c = search needs

@@ -7,8 +7,6 @@ use lib.ListN.{length, drop, replicate, length-set, drop-of-length-le}
 use Rattle.graph.specs.Lists.{zeros}
 use Rattle.graph.proofs.order.clear.Statement.{statement}
 use Rattle.graph.proofs.order.clear.Tie as tie
-use Rattle.graph.proofs.order.clear.Reads as reads
-use Rattle.graph.proofs.order.clear.Lts as lts
 
 abbrev Inv-loop : tie.InvT-loop
 Inv-loop out₀ i₀ out i = (i ≤ length out₀) × (length out ≡ length out₀) × (out ≡ replicate i 0 ++ drop i out₀)

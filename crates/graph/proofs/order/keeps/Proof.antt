@@ -1,22 +1,17 @@
 use mathlib.Core.Path.{_≡_, refl, sym, ap, _∙_}
-use mathlib.Core.Bool.{Bool, true, false}
-use Prim.Native.Nat.{ℕ, _+_, _≤_, _-_}
+use Prim.Native.Nat.{_≤_, _-_}
 use native.Mathlib.Omega.{arith}
 use lib.ListN.{length, getD, drop, length-set}
 use borrow.Author.Needs.{needs}
 use borrow.Author.Tests.{not-true, not-false}
 use Rattle.graph.specs.Tests.{fails}
 use Rattle.graph.specs.Matrix.{matrix-order}
-use Rattle.graph.specs.Steps.{may-begin, unmarked}
+use Rattle.graph.specs.Steps.{unmarked}
 use Rattle.graph.proofs.Truth.{not-fails, and-yes, and-no-left}
 use Rattle.graph.proofs.Peel.{free→}
 use Rattle.graph.proofs.Marks.{Part, part→, matrix-turn, matrix-end}
 use Rattle.graph.proofs.order.keeps.Statement.{statement}
 use Rattle.graph.proofs.order.keeps.Tie as tie
-use Rattle.graph.proofs.order.keeps.Reads as reads
-use Rattle.graph.proofs.order.keeps.Lts as lts
-use Rattle.graph.proofs.left.begins.Reads as begins-reads
-use Rattle.graph.proofs.left.some_left.Reads as some-left-reads
 
 abbrev Inv-loop : tie.InvT-loop
 Inv-loop m given left₀ i₀ left i = (i ≤ length given) × (length left ≡ 128) × (matrix-order 128 m left₀ given ≡ matrix-order 128 m left (drop i given))

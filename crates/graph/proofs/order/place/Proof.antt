@@ -1,5 +1,5 @@
-use mathlib.Core.Path.{_≡_, refl, sym, ap, _∙_}
-use Prim.Native.Nat.{ℕ, _<_, _≤_, _-_}
+use mathlib.Core.Path.{_≡_}
+use Prim.Native.Nat.{_<_, _≤_, _-_}
 use native.Mathlib.Omega.{arith}
 use lib.ListN.{length, length-set}
 use borrow.Author.Needs.{needs}
@@ -8,9 +8,6 @@ use Rattle.graph.specs.Steps.{may-begin, unmarked}
 use Rattle.graph.proofs.Filled.{Filled, filled-none, filled-next, filled-more, filled-all}
 use Rattle.graph.proofs.order.place.Statement.{statement}
 use Rattle.graph.proofs.order.place.Tie as tie
-use Rattle.graph.proofs.order.place.Reads as reads
-use Rattle.graph.proofs.order.place.Lts as lts
-use Rattle.graph.proofs.left.lowest_beginning.Reads as lowest-beginning-reads
 
 abbrev Inv-loop : tie.InvT-loop
 Inv-loop out₀ m start left₀ n₀ v₀ out left n v = (length out ≡ 128) × (v ≡ lowest 129 (λ t. 1 upto t and may-begin m left t)) × Filled m left₀ start out₀ n left out
