@@ -4,17 +4,13 @@ use mathlib.Core.List.{List, [], _∷_, _++_}
 use Prim.Native.Nat.{ℕ, zero, suc, _+_, _-_, _≤_, _<_}
 use native.Mathlib.Omega.{arith}
 use lib.ListN.{length, drop, set, replicate, length-replicate}
-use lib.Seq.{sets, length-sets, sets-eq, set-comm}
+use lib.Seq.{sets, sets-eq, set-comm}
 use Rattle.graph.specs.Lists.{zeros, entries}
 use Rattle.graph.specs.Steps.{laid}
 
 pub laid-none : (i : ℕ) (l : List ℕ) → laid i [] l ≡ l
 unfolding laid
 laid-none i l = refl
-
-pub laid-length : (i : ℕ) (w l : List ℕ) → length (laid i w l) ≡ length l
-unfolding laid
-laid-length i w l = length-sets l i w
 
 -- one entry more behind
 pub laid-more : (i : ℕ) (w l : List ℕ) (b : ℕ) → laid i (w ++ b ∷ []) l ≡ set (laid i w l) (i + length w) b

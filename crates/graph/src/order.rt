@@ -22,7 +22,7 @@ pub fn keeps(m: &[u8], part: [u8; 128], given: &[u16]) -> bool
     ensures { λ r. ⌜ r ≡ matrix-order vertices (now (m .entry)) part (now (given .entry)) ⌝ }
 {
     let mut left = part;
-    let mut i: usize = 0;
+    let mut i = 0;
     while i < given.len() {
         let v = given[i] as usize;
         if !begins(m, &left, v) {

@@ -1,12 +1,11 @@
-use Prim.Native.Nat.{_<_, _-_}
-use lib.ListN.{length, getD, length-set}
+use mathlib.Core.Path.{_≡_, _∙_}
+use Prim.Native.Nat.{ℕ, _<_, _-_}
 use native.Mathlib.Omega.{arith}
+use lib.ListN.{length, getD, length-set}
 use borrow.Author.Needs.{needs}
 use Rattle.graph.specs.Steps.{unmarked}
 use Rattle.graph.proofs.Marks.{Part}
 use Rattle.graph.proofs.Turn.{at-end, at-vertex, at-rest, at-room, at-same, at-higher}
-use mathlib.Core.Path.{_≡_, _∙_}
-use Prim.Native.Nat.{ℕ}
 use borrow.Fn.Kinds.{In}
 use borrow.Fn.PlainCycle.{Measures, is, falls, and}
 use Rattle.graph.proofs.onward.follow.Reads as follow

@@ -9,7 +9,7 @@ use Rattle.graph.proofs.order.clear.Statement.{statement}
 use Rattle.graph.proofs.order.clear.Tie as tie
 
 abbrev Inv-loop : tie.InvT-loop
-Inv-loop out₀ i₀ out i = (i ≤ length out₀) × (length out ≡ length out₀) × (out ≡ replicate i 0 ++ drop i out₀)
+Inv-loop out₀ i₀ out i = (out ≡ replicate i 0 ++ drop i out₀) × (length out ≡ length out₀) × (i ≤ length out₀)
 
 abbrev μ-loop : tie.MeasureT-loop
 μ-loop out₀ i₀ out i = length out₀ - i
@@ -21,7 +21,7 @@ ge : (c : tie.After-loop Inv-loop μ-loop) → length (c .before .before .args .
 ge c = omega arith
 
 loop-holds : tie.Need-loop-holds Inv-loop μ-loop
-loop-holds c = (omega arith, refl, refl)
+loop-holds c = (refl, refl, omega arith)
 
 mul-out : tie.Need-mul-out Inv-loop μ-loop
 mul-out c = omega arith
@@ -36,7 +36,7 @@ loop-less : tie.Need-loop-less Inv-loop μ-loop
 loop-less c = omega arith
 
 loop-again : tie.Need-loop-again Inv-loop μ-loop
-loop-again c = (omega arith, simp length-set (c .before .loop .inv .1), rw (c .before .loop .inv .2) (fill-more _ _ _ (lt c)))
+loop-again c = (rw (c .before .loop .inv .0) (fill-more _ _ _ (lt c)), simp length-set (c .before .loop .inv .1), omega arith)
 
 same-length : tie.Need-same-length Inv-loop μ-loop
 same-length c = c .before .loop .inv .1
@@ -47,7 +47,7 @@ full d i p q = let e : i ≡ length d = omega arith in rw (drop-of-length-le d q
 
 returns : tie.Need-returns Inv-loop μ-loop
 unfolding zeros
-returns c = c .before .loop .inv .2 ∙ full _ _ (c .before .loop .inv .0) (ge c)
+returns c = c .before .loop .inv .0 ∙ full _ _ (c .before .loop .inv .2) (ge c)
 
 pub clear-spec : {M : Type 1} → statement M
 clear-spec =
