@@ -1,46 +1,23 @@
 -- What `sort` and `next` answer, from what was found and laid into a cleared witness.
 use mathlib.Core.Path.{_≡_, refl, sym, ap, _∙_}
 use mathlib.Core.Bool.{true, false}
-use mathlib.Core.List.{List, [], _∷_}
+use mathlib.Core.List.{List, []}
 use mathlib.Core.Option.{none, some as just}
-use Prim.Native.Nat.{ℕ, _+_, _≤_, _<_}
+use Prim.Native.Nat.{ℕ, _≤_, _<_}
 use native.Mathlib.Omega.{arith}
-use lib.ListN.{length, set}
+use lib.ListN.{length}
 use Rattle.graph.specs.Tests.{some}
 use Rattle.graph.specs.Lists.{zeros, entries}
 use Rattle.graph.specs.First.{dictionary, First, earliest, not-any, later}
-use Rattle.graph.specs.Cycle.{is-cycle}
 use Rattle.graph.specs.Shows.{order, cycle, members, shows-order, shows-cycle}
-use Rattle.graph.specs.Matrix.{takes-part, joined, matrix-order, told, told-later, later-members, Sorts, Follows}
-use Rattle.graph.specs.Steps.{laid, pick, far, Places, Followed, Least, Cycled}
+use Rattle.graph.specs.Matrix.{takes-part, matrix-order, told, told-later, later-members, Sorts, Follows}
+use Rattle.graph.specs.Steps.{laid, Places, Followed, Cycled}
 use Rattle.graph.specs.declared.Answer.the-variants.{Order, Cycle}
 use Rattle.graph.specs.declared.Later.the-variants.{Found, Nothing}
 use Rattle.graph.proofs.Truth.{and→}
-use Rattle.graph.proofs.Sized.{order-size, order-acyclic, most, cycle-size}
-use Rattle.graph.proofs.Marks.{ends-from, no-loop}
-use Rattle.graph.proofs.Ring.{least-found, least-size, least-first}
-use Rattle.graph.proofs.Laid.{laid-none, laid-front, laid-entries}
+use Rattle.graph.proofs.Sized.{order-size, order-acyclic, most}
+use Rattle.graph.proofs.Laid.{laid-none, laid-entries}
 use Rattle.graph.proofs.Turn.{found-none, found-some}
-
--- the least closed walk of a graph that has a cycle, and the cycle that is laid down from it
-module _ (m part : List ℕ) {k s : ℕ} (l : Least (joined 128 m part) 129 k s) (c : List ℕ) (h : is-cycle (joined 128 m part) c ≡ true) where
-  pub ring-found : (1 ≤ s) × (s ≤ 128) × (k < 128) × (far (joined 128 m part) s 128 s ≡ k)
-  ring-found =
-      let b : k < 128 = least-found (ends-from 128 m part) l c h (cycle-size 128 m part c h) in
-      let r = l .home b in
-      (r .0, omega (arith, r .1), b, r .2)
-
-  pub ring-cycled : (witness witness′ : List ℕ) → witness′ ≡ laid 1 (pick (joined 128 m part) s k s) (set witness 0 s) → Cycled m part witness (k + 1) witness′
-  ring-cycled witness witness′ e =
-      let b = ring-found .2 in
-      let n = least-size (ends-from 128 m part) l b in
-      record {
-        members = s ∷ pick (joined 128 m part) s k s;
-        first = least-first (ends-from 128 m part) l (no-loop 128 m part) b;
-        counted = omega (arith, n);
-        room = omega (arith, n);
-        lies = e ∙ laid-front 0 (pick (joined 128 m part) s k s) witness s;
-      }
 
 module _ (m part : List ℕ) (size : length part ≡ 128) where
   pub order-short : (w : List ℕ) → matrix-order 128 m part w ≡ true → length w ≤ 128

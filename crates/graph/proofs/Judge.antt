@@ -1,4 +1,4 @@
--- The verdicts, computed by trying every list: for small logs. What is computed is the answer that the definitions ask for.
+-- What is shown of a graph, computed by trying every list: for small graphs. What is computed is the answer that the definitions ask for.
 use mathlib.Core.Path.{_≡_, refl}
 use mathlib.Core.Bool.{Bool, true, false≢true}
 use mathlib.Core.Logic.{_⊎_, inl, inr, ⊎-elim}

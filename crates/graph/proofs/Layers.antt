@@ -1,4 +1,4 @@
--- Marks that are set step by step, at one vertex after another or for one vertex after another.
+-- Marks that are set step by step: at one vertex after another, or for the edges to one vertex after another.
 use mathlib.Core.Path.{_≡_, refl, sym, ap, _∙_}
 use mathlib.Core.Bool.{Bool, true, false}
 use mathlib.Core.Logic.{_⊎_, inl, inr, ⊎-elim}
@@ -55,7 +55,7 @@ pub marked-all : (p : ℕ → Bool) {mark : ℕ} {f g : ℕ → ℕ} {u : ℕ} �
 marked-all p {u} a past =
     record { each = λ t l h. let e : (t below u and p t) ≡ p t = and-yes (p t) (→below (omega arith)) in ⊎-elim (λ x. inl (x .0, sym e ∙ x .1, x .2)) (λ x. inr (x .0, λ z. sym e ∙ x .1 z)) (a .each t l h) }
 
--- marks for one vertex u after another
+-- marks for the edges to one vertex u after another
 module _ (pass : ℕ → ℕ → Bool) {mark : ℕ} {f g : ℕ → ℕ} (u : ℕ) (a : Marked (λ t. some u (pass t)) mark f g) where
   pub marked-for : (q : ℕ → Bool) {h : ℕ → ℕ} → mark < 128 → ((t : ℕ) → pass t u ≡ q t) → Marked q mark g h → Marked (λ t. some (u + 1) (pass t)) mark f h
   marked-for q small e b = marked-same _ (λ t. sym (some-next u (pass t) ∙ ap (λ (z : Bool). some u (pass t) or z) (e t))) (marked-more _ q small a b)

@@ -9,11 +9,14 @@ use borrow.Author.Count.{below-more}
 use Rattle.graph.specs.Tests.{_is_, _below_, _and_, lowest}
 use Rattle.graph.specs.First.{shorter, First}
 use Rattle.graph.specs.Cycle.{is-cycle}
-use Rattle.graph.specs.Steps.{reach, pick, far, laid, Near, Least}
+use Rattle.graph.specs.Matrix.{joined}
+use Rattle.graph.specs.Steps.{reach, pick, far, laid, Near, Least, Cycled}
 use Rattle.graph.proofs.Truth.{to-false, and→, some→}
+use Rattle.graph.proofs.Marks.{ends-from, no-loop}
+use Rattle.graph.proofs.Sized.{cycle-size}
 use Rattle.graph.proofs.Shortest.{way-reach, cycle-way, pick-way, shortest-first}
 use Rattle.graph.proofs.Far.{far-reach, far-le, far-bound, onward-pick}
-use Rattle.graph.proofs.Laid.{laid-none, laid-more}
+use Rattle.graph.proofs.Laid.{laid-none, laid-more, laid-front}
 
 -- no start was tried, and one more
 pub least-none : (edge : ℕ → ℕ → Bool) (s : ℕ) → Least edge 1 128 s
@@ -103,3 +106,23 @@ traced-more {edge} ends {s} {len} {before} {a} {after} {f} {j} k one n b t r e =
 pub traced-all : {edge : ℕ → ℕ → Bool} {s len : ℕ} {before : List ℕ} {a k : ℕ} {after : List ℕ} → Traced edge s len before a k after → k ≡ 0 → after ≡ laid 1 (pick edge s len s) before
 unfolding pick
 traced-all {edge} {s} {before} {a} t e = t .lies ∙ ap (λ (z : List ℕ). laid 1 z before) (sym (append-nil (t .walked)) ∙ ap (λ (z : ℕ). t .walked ++ pick edge s z a) (sym e) ∙ sym (t .way))
+
+-- the least closed walk of a graph that has a cycle, and the cycle that is laid down from it
+module _ (m part : List ℕ) {k s : ℕ} (l : Least (joined 128 m part) 129 k s) (c : List ℕ) (h : is-cycle (joined 128 m part) c ≡ true) where
+  pub ring-found : (1 ≤ s) × (s ≤ 128) × (k < 128) × (far (joined 128 m part) s 128 s ≡ k)
+  ring-found =
+      let b : k < 128 = least-found (ends-from 128 m part) l c h (cycle-size 128 m part c h) in
+      let r = l .home b in
+      (r .0, omega (arith, r .1), b, r .2)
+
+  pub ring-cycled : (witness witness′ : List ℕ) → witness′ ≡ laid 1 (pick (joined 128 m part) s k s) (set witness 0 s) → Cycled m part witness (k + 1) witness′
+  ring-cycled witness witness′ e =
+      let b = ring-found .2 in
+      let n = least-size (ends-from 128 m part) l b in
+      record {
+        members = s ∷ pick (joined 128 m part) s k s;
+        first = least-first (ends-from 128 m part) l (no-loop 128 m part) b;
+        counted = omega (arith, n);
+        room = omega (arith, n);
+        lies = e ∙ laid-front 0 (pick (joined 128 m part) s k s) witness s;
+      }

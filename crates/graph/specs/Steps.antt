@@ -82,7 +82,8 @@ pub record Marked (passes : ℕ → Bool) (mark : ℕ) (f g : ℕ → ℕ) : Typ
 pub record Near (edge : ℕ → ℕ → Bool) (s k : ℕ) (f : ℕ → ℕ) : Type 0 where
   pub each : (t : ℕ) → 1 ≤ t → t ≤ vertices → f t ≡ far edge s k t
 
--- of the closed walks from vertices below `end`, the shortest have k nodes on the way besides the lowest, which is s; k is 128 where there is none
+-- of the closed walks from a vertex below `end` through higher ones, a shortest has k nodes on the way, and s is the lowest vertex that has such
+-- a one; k is 128 where there is none
 pub record Least (edge : ℕ → ℕ → Bool) (end k s : ℕ) : Type 0 where
   pub bound : k ≤ vertices
   pub home : k < vertices → (1 ≤ s) × (s < end) × (far edge s vertices s ≡ k)

@@ -1,6 +1,6 @@
 use native.Mathlib.Omega.{arith}
 use lib.ListN.{length-set}
-use Rattle.graph.proofs.Answers.{ring-found, ring-cycled}
+use Rattle.graph.proofs.Ring.{ring-found, ring-cycled}
 use borrow.Author.Needs.{needs}
 use Rattle.graph.proofs.cycle.cycle.Statement.{statement}
 use Rattle.graph.proofs.cycle.cycle.Tie as tie
