@@ -8,7 +8,7 @@ use native.Mathlib.Omega.{arith}
 use Rattle.graph.specs.Tests.{_upto_, _and_, count, lowest}
 use Rattle.graph.specs.Matrix.{takes-part}
 use Rattle.graph.specs.Steps.{may-begin, unmarked}
-use Rattle.graph.proofs.Truth.{to-false, and→, →and, upto→, →upto, lowest-is, lowest-le, lowest-some}
+use Rattle.graph.proofs.Truth.{to-false, and→, →and, upto→, →upto, lowest-is, lowest-le, lowest-passes}
 use Rattle.graph.proofs.Peel.{free→}
 use Rattle.graph.proofs.Marks.{Part, part→}
 use Rattle.graph.proofs.Sized.{part-less}
@@ -26,7 +26,7 @@ module _ (m left : List ℕ) (start v : ℕ) (is-lowest : v ≡ lowest 129 (λ t
   pub lowest→ : v ≤ 128 → Lowest m left start v
   lowest→ h =
       let low : lowest 129 (λ t. start upto t and may-begin m left t) < 129 = omega arith in
-      let r = lowest-is _ (lowest-some (λ t. start upto t and may-begin m left t) low) in
+      let r = lowest-is _ (lowest-passes (λ t. start upto t and may-begin m left t) low) in
       let e = and→ (subst (λ (z : ℕ). (start upto z and may-begin m left z) ≡ true) (sym is-lowest) (r .1)) in
       record { begins = e .1; from = upto→ (e .0); vertex = part→ 128 left v (free→ (e .1) .is-node); least = at-most }
 

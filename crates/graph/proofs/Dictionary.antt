@@ -1,12 +1,12 @@
 -- Dictionary order is a strict order of all lists, so "the first" is one.
-use mathlib.Core.Path.{_≡_, refl, sym}
-use mathlib.Core.Bool.{Bool, true, false, true≢false}
+use mathlib.Core.Path.{_≡_, refl, sym, _∙_}
+use mathlib.Core.Bool.{Bool, true, false, true≢false, false≢true}
 use mathlib.Core.Logic.{_⊎_, inl, inr, ⊎-elim}
 use mathlib.Core.List.{List, [], _∷_}
 use Prim.Native.Nat.{ℕ, _≤_, _<_}
 use native.Mathlib.Omega.{arith}
 use lib.ListN.{length}
-use Rattle.graph.specs.Tests.{_below_}
+use Rattle.graph.specs.Tests.{_is_, _below_, _and_, _or_}
 use Rattle.graph.specs.First.{dictionary, shorter, First}
 use Rattle.graph.proofs.Truth.{decide, not-both, to-false, and→, →and, or→, →or-left, →or-right, is→, →is, below→, →below, not-below→}
 
@@ -65,3 +65,32 @@ pub shorter-not : (v w : List ℕ) → length w ≤ length v → (length v ≡ l
 unfolding shorter
 shorter-not v w h f =
     to-false _ (λ k. ⊎-elim (λ (l : (length v below length w) ≡ true). let z : length v < length w = below→ l in omega arith) (λ l. not-both (and→ l .1) (f (is→ (and→ l .0)))) (or→ k))
+
+-- of two lists at most one comes before the other
+pub dictionary-asym : (v w : List ℕ) → dictionary v w ≡ true → dictionary w v ≡ false
+unfolding dictionary
+dictionary-asym v [] h = absurd (false≢true h)
+dictionary-asym [] (b ∷ w) h = refl
+dictionary-asym (a ∷ v) (b ∷ w) h =
+    ⊎-elim (λ (l : (a below b) ≡ true). let z : a < b = below→ l in dictionary-not b a w v (omega arith) (λ (e : b ≡ a). absurd (omega arith)))
+    (λ (l : (a is b and dictionary v w) ≡ true). let e : a ≡ b = is→ (and→ l .0) in dictionary-not b a w v (omega arith) (λ _. dictionary-asym v w (and→ l .1))) (or→ h)
+
+pub shorter-asym : (v w : List ℕ) → shorter v w ≡ true → shorter w v ≡ false
+unfolding shorter
+shorter-asym v w h =
+    ⊎-elim (λ (l : (length v below length w) ≡ true). let z : length v < length w = below→ l in shorter-not w v (omega arith) (λ (e : length w ≡ length v). absurd (omega arith)))
+    (λ (l : (length v is length w and dictionary v w) ≡ true). let e : length v ≡ length w = is→ (and→ l .0) in shorter-not w v (omega arith) (λ _. dictionary-asym v w (and→ l .1))) (or→ h)
+
+pub dictionary-trans : (u v w : List ℕ) → dictionary u v ≡ true → dictionary v w ≡ true → dictionary u w ≡ true
+unfolding dictionary
+dictionary-trans u [] w h k = absurd (false≢true h)
+dictionary-trans u (b ∷ v) [] h k = absurd (false≢true k)
+dictionary-trans [] (b ∷ v) (c ∷ w) h k = refl
+dictionary-trans (a ∷ u) (b ∷ v) (c ∷ w) h k = go (or→ h) (or→ k) (dictionary-trans u v w)
+  where
+    go : ((a below b) ≡ true) ⊎ ((a is b and dictionary u v) ≡ true) → ((b below c) ≡ true) ⊎ ((b is c and dictionary v w) ≡ true)
+        → (dictionary u v ≡ true → dictionary v w ≡ true → dictionary u w ≡ true) → (a below c or (a is c and dictionary u w)) ≡ true
+    go (inl p) (inl q) rec = let x : a < b = below→ p in let y : b < c = below→ q in →or-left _ (→below (omega arith))
+    go (inl p) (inr q) rec = let x : a < b = below→ p in let y : b ≡ c = is→ (and→ q .0) in →or-left _ (→below (omega arith))
+    go (inr p) (inl q) rec = let x : a ≡ b = is→ (and→ p .0) in let y : b < c = below→ q in →or-left _ (→below (omega arith))
+    go (inr p) (inr q) rec = →or-right _ (→and (→is (is→ (and→ p .0) ∙ is→ (and→ q .0))) (rec (and→ p .1) (and→ q .1)))

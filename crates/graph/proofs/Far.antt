@@ -8,13 +8,13 @@ use native.Mathlib.Omega.{arith}
 use native.Mathlib.Numerals.{add-one}
 use Rattle.graph.specs.Tests.{_is_, _below_, _and_, some, lowest}
 use Rattle.graph.specs.Steps.{reach, pick, far, Marked, Near}
-use Rattle.graph.proofs.Truth.{decide, not-both, to-false, same-test, and→, →and, is→, →is, isnt→, below→, →below, not-below→, some→, →some, →none, lowest-is, lowest-at, lowest-le, lowest-none, lowest-some, lowest-bound}
+use Rattle.graph.proofs.Truth.{decide, not-both, to-false, same-test, and→, →and, is→, →is, isnt→, below→, →below, not-below→, some→, →some, →none, lowest-is, lowest-at, lowest-le, lowest-none, lowest-passes, lowest-bound}
 
 module _ (edge : ℕ → ℕ → Bool) where
   -- what `far` finds
   pub far-reach : (s k t : ℕ) → far edge s k t < 128 → (reach edge s (far edge s k t) t ≡ true) × (far edge s k t < k)
   unfolding far
-  far-reach s k t h = let r = and→ (lowest-is _ (lowest-some (λ j. j below k and reach edge s j t) h) .1) in (r .1, below→ (r .0))
+  far-reach s k t h = let r = and→ (lowest-is _ (lowest-passes (λ j. j below k and reach edge s j t) h) .1) in (r .1, below→ (r .0))
 
   pub far-le : (s k t j : ℕ) → j < k → j < 128 → reach edge s j t ≡ true → far edge s k t ≤ j
   unfolding far

@@ -3,25 +3,28 @@ use mathlib.Core.Path.{_≡_, refl}
 use mathlib.Core.Bool.{Bool, true, false≢true}
 use mathlib.Core.Logic.{_⊎_, inl, inr, ⊎-elim}
 use mathlib.Core.List.{List, [], _∷_}
-use mathlib.Core.Option.{Option, none, some}
+use mathlib.Core.Option.{Option, none, some as just}
 use Prim.Native.Nat.{ℕ, suc, _+_, _≤_, _<_}
 use native.Mathlib.Omega.{arith}
 use lib.ListN.{length}
 use Rattle.graph.specs.Tests.{count}
 use Rattle.graph.specs.Lists.{member, all, distinct}
 use Rattle.graph.specs.First.{shorter, First, Never}
+use Rattle.graph.specs.Listed.{Among, here, Listed}
 use Rattle.graph.specs.Order.{once-each, is-order}
 use Rattle.graph.specs.Cycle.{leads, is-cycle}
 use Rattle.graph.specs.Shows.{Shown, order, cycle, Shows, shows-order, shows-cycle}
 use Rattle.graph.proofs.Truth.{to-false, and→, →and, →fails, implies→, every→, below→}
+use Rattle.graph.proofs.Dictionary.{shorter-asym}
 use Rattle.graph.proofs.Places.{all→, →all}
-use Rattle.graph.proofs.Search.{rising, find-list, find-short, ascending, find-first, short-first, short-none}
+use Rattle.graph.proofs.Search.{rising, ascending, tuples, short-tuples, sift, sift→, →sift, sift-rises, short-rise, →short, head-first, empty-never, tuples-listed, listed-first}
 use Rattle.graph.proofs.Pigeon.{pigeon, rising-distinct, ascending-rises, ascending-has, ascending-only, ascending-length}
 
-unfoldable pub shown-by : Option (List ℕ) → Option (List ℕ) → Option Shown
-shown-by (some c) w = some (cycle c)
-shown-by none (some w) = some (order w)
-shown-by none none = none
+-- the first of the cycles, or else the first of the orders
+unfoldable pub shown-by : List (List ℕ) → List (List ℕ) → Option Shown
+shown-by (c ∷ cs) ws = just (cycle c)
+shown-by [] (w ∷ ws) = just (order w)
+shown-by [] [] = none
 
 module _ (n : ℕ) (node : ℕ → Bool) where
   -- the nodes, ascending
@@ -30,7 +33,7 @@ module _ (n : ℕ) (node : ℕ → Bool) where
 
   -- the graph's answer, computed
   unfoldable pub judge-graph : (ℕ → ℕ → Bool) → Option Shown
-  judge-graph edge = shown-by (find-short (suc (length nodes)) (is-cycle edge) nodes) (find-list (length nodes) (is-order n node edge) nodes)
+  judge-graph edge = shown-by (sift (is-cycle edge) (short-tuples (suc (length nodes)) nodes)) (sift (is-order n node edge) (tuples (length nodes) nodes))
 
   pub nodes-rise : rising nodes ≡ true
   unfolding nodes
@@ -81,26 +84,43 @@ module _ (n : ℕ) (node : ℕ → Bool) where
     pub cycle-length : (c : List ℕ) → is-cycle edge c ≡ true → length c < suc (length nodes)
     cycle-length c h = let a : length c ≤ length nodes = pigeon c nodes (cycle-distinct c h) (all→ _ c (cycle-over c h)) in omega arith
 
+    -- every cycle is among the short lists over the nodes
+    cycles : List (List ℕ)
+    cycles = sift (is-cycle edge) (short-tuples (suc (length nodes)) nodes)
+
+    cycles-all : (c : List ℕ) → is-cycle edge c ≡ true → Among c cycles
+    unfolding cycles
+    cycles-all c h = →sift (is-cycle edge) (short-tuples (suc (length nodes)) nodes) c (→short (suc (length nodes)) nodes c (cycle-length c h) (cycle-over c h)) h
+
+    cycles-first : (c : List ℕ) (cs : List (List ℕ)) → cycles ≡ c ∷ cs → First shorter (is-cycle edge) c
+    unfolding cycles
+    cycles-first c cs e =
+        head-first shorter shorter-asym (is-cycle edge) c cs
+        (rw e at (sift-rises shorter (is-cycle edge) (short-tuples (suc (length nodes)) nodes) (short-rise (suc (length nodes)) nodes nodes-rise)))
+        (λ v h. rw e at (cycles-all v h))
+        (sift→ shorter (is-cycle edge) (short-tuples (suc (length nodes)) nodes) c (rw e here) .1)
+
+    cycles-none : cycles ≡ [] → Never (is-cycle edge)
+    cycles-none e = empty-never shorter shorter-asym (is-cycle edge) (λ v h. rw e at (cycles-all v h))
+
     -- there is a first shortest cycle, or none at all
     pub first-cycle : ((c : List ℕ) × First shorter (is-cycle edge) c) ⊎ Never (is-cycle edge)
-    first-cycle = go (find-short (suc (length nodes)) (is-cycle edge) nodes) refl
+    first-cycle = go cycles refl
       where
-        go : (o : Option (List ℕ)) → find-short (suc (length nodes)) (is-cycle edge) nodes ≡ o → ((c : List ℕ) × First shorter (is-cycle edge) c) ⊎ Never (is-cycle edge)
-        go (some c) p = inl (c, short-first (suc (length nodes)) (is-cycle edge) nodes nodes-rise cycle-over cycle-length c p)
-        go none p = inr (short-none (suc (length nodes)) (is-cycle edge) nodes nodes-rise cycle-over cycle-length p)
+        go : (l : List (List ℕ)) → cycles ≡ l → ((c : List ℕ) × First shorter (is-cycle edge) c) ⊎ Never (is-cycle edge)
+        go (c ∷ cs) e = inl (c, cycles-first c cs e)
+        go [] e = inr (cycles-none e)
 
-    pub judge-shows : (s : Shown) → judge-graph edge ≡ some s → Shows n node edge s
-    unfolding judge-graph shown-by is-order
-    judge-shows s e = go (find-short (suc (length nodes)) (is-cycle edge) nodes) (find-list (length nodes) (is-order n node edge) nodes) refl refl e
+    orders-listed : Listed (is-order n node edge) (sift (is-order n node edge) (tuples (length nodes) nodes))
+    unfolding is-order
+    orders-listed =
+        tuples-listed (length nodes) (is-order n node edge) nodes nodes-rise (λ v h. once-over v (and→ h .0)) (λ v h. once-length v (and→ h .0))
+
+    pub judge-shows : (s : Shown) → judge-graph edge ≡ just s → Shows n node edge s
+    unfolding judge-graph shown-by cycles
+    judge-shows s e = go cycles (sift (is-order n node edge) (tuples (length nodes) nodes)) refl refl e
       where
-        go : (o r : Option (List ℕ)) → find-short (suc (length nodes)) (is-cycle edge) nodes ≡ o
-            → find-list (length nodes) (is-order n node edge) nodes ≡ r → shown-by o r ≡ some s → Shows n node edge s
-        go (some c) r p q z =
-            let f : cycle c ≡ s = cc in
-            rw (← f) (shows-cycle (short-first (suc (length nodes)) (is-cycle edge) nodes nodes-rise cycle-over cycle-length c p))
-        go none (some w) p q z =
-            let f : order w ≡ s = cc in
-            rw (← f)
-            (shows-order (short-none (suc (length nodes)) (is-cycle edge) nodes nodes-rise cycle-over cycle-length p)
-            (find-first (length nodes) (is-order n node edge) nodes nodes-rise (λ v h. once-over v (and→ h .0)) (λ v h. once-length v (and→ h .0)) w q))
-        go none none p q z = let f : _≡_ {A = ℕ} 0 1 = cc in absurd (omega arith)
+        go : (l r : List (List ℕ)) → cycles ≡ l → sift (is-order n node edge) (tuples (length nodes) nodes) ≡ r → shown-by l r ≡ just s → Shows n node edge s
+        go (c ∷ cs) r p q z = let f : cycle c ≡ s = cc in rw (← f) (shows-cycle (cycles-first c cs p))
+        go [] (w ∷ ws) p q z = let f : order w ≡ s = cc in rw (← f) (shows-order (cycles-none p) (listed-first (rw q at orders-listed)))
+        go [] [] p q z = let f : _≡_ {A = ℕ} 0 1 = cc in absurd (omega arith)

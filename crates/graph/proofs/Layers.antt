@@ -9,7 +9,7 @@ use lib.ListN.{length, set}
 use lib.Seq.{getD-set-same, getD-set-other}
 use Rattle.graph.specs.Tests.{_is_, _below_, _and_, _or_, some}
 use Rattle.graph.specs.Steps.{entry, Marked}
-use Rattle.graph.proofs.Truth.{decide, not-both, to-false, same-test, and→, →and, and-yes, and-no-left, or→, →or-left, →or-right, or-no, is→, →is, isnt→, →isnt, below→, →below, not-below→, some-next}
+use Rattle.graph.proofs.Truth.{decide, not-both, to-false, same-test, and→, →and, and-true, and-no-left, or→, →or-left, →or-right, or-no, is→, →is, isnt→, →isnt, below→, →below, not-below→, some-next}
 
 pub marked-same : {p : ℕ → Bool} (q : ℕ → Bool) {mark : ℕ} {f g : ℕ → ℕ} → ((t : ℕ) → p t ≡ q t) → Marked p mark f g → Marked q mark f g
 marked-same {p} q e a = record { each = λ t l h. ⊎-elim (λ x. inl (x .0, sym (e t) ∙ x .1, x .2)) (λ x. inr (x .0, λ z. sym (e t) ∙ x .1 z)) (a .each t l h) }
@@ -53,7 +53,7 @@ module _ (p : ℕ → Bool) (mark : ℕ) (small : mark < 128) {f : ℕ → ℕ} 
 -- .. and past the last every vertex was asked
 pub marked-all : (p : ℕ → Bool) {mark : ℕ} {f g : ℕ → ℕ} {u : ℕ} → Marked (λ t. t below u and p t) mark f g → 128 < u → Marked p mark f g
 marked-all p {u} a past =
-    record { each = λ t l h. let e : (t below u and p t) ≡ p t = and-yes (p t) (→below (omega arith)) in ⊎-elim (λ x. inl (x .0, sym e ∙ x .1, x .2)) (λ x. inr (x .0, λ z. sym e ∙ x .1 z)) (a .each t l h) }
+    record { each = λ t l h. let e : (t below u and p t) ≡ p t = and-true (→below (omega arith)) in ⊎-elim (λ x. inl (x .0, sym e ∙ x .1, x .2)) (λ x. inr (x .0, λ z. sym e ∙ x .1 z)) (a .each t l h) }
 
 -- marks for the edges to one vertex u after another
 module _ (pass : ℕ → ℕ → Bool) {mark : ℕ} {f g : ℕ → ℕ} (u : ℕ) (a : Marked (λ t. some u (pass t)) mark f g) where

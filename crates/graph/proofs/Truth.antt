@@ -6,7 +6,7 @@ use Prim.Native.Nat.{ℕ, zero, suc, _+_, _≤_, _<_}
 use native.Mathlib.Omega.{arith}
 use native.Mathlib.Nat.{not-suc-le-zero}
 use native.Mathlib.Numerals.{add-one}
-use borrow.Author.Tests.{ltb-true, ltb-false, leb-true, eqb-true, eqb-false, lt-ltb, le-ltb, le-leb, eq-eqb, ne-eqb}
+use borrow.Author.Tests.{ltb-true, ltb-false, leb-true, leb-false, eqb-true, eqb-false, lt-ltb, le-ltb, le-leb, lt-leb, eq-eqb, ne-eqb}
 use Rattle.graph.specs.Tests.{_is_, _below_, _upto_, _and_, _or_, _implies_, fails, if_then_else_, some, every, count, lowest}
 
 -- a test passes or fails
@@ -62,11 +62,6 @@ unfolding _or_
 or-no true h = refl
 or-no false h = h
 
-pub and-yes : {a : Bool} (b : Bool) → a ≡ true → (a and b) ≡ b
-unfolding _and_
-and-yes {a = true} b h = refl
-and-yes {a = false} b h = absurd (false≢true h)
-
 pub and-no-left : {a : Bool} (b : Bool) → a ≡ false → (a and b) ≡ false
 unfolding _and_
 and-no-left {a = true} b h = absurd (true≢false h)
@@ -76,6 +71,16 @@ pub and-no-right : (a : Bool) {b : Bool} → b ≡ false → (a and b) ≡ false
 unfolding _and_
 and-no-right true h = h
 and-no-right false h = refl
+
+pub and-true : {a b : Bool} → a ≡ true → (a and b) ≡ b
+unfolding _and_
+and-true {a = true} {b} h = refl
+and-true {a = false} {b} h = absurd (false≢true h)
+
+pub or-false : {a b : Bool} → a ≡ false → (a or b) ≡ b
+unfolding _or_
+or-false {a = true} {b} h = absurd (true≢false h)
+or-false {a = false} {b} h = refl
 
 pub fails→ : {a : Bool} → fails a ≡ true → a ≡ false
 unfolding fails
@@ -92,6 +97,16 @@ pub not-fails : (b : Bool) → not b ≡ fails b
 unfolding fails
 not-fails true = refl
 not-fails false = refl
+
+pub not-fails→ : {a : Bool} → fails a ≡ false → a ≡ true
+unfolding fails
+not-fails→ {a = true} h = refl
+not-fails→ {a = false} h = absurd (true≢false h)
+
+pub →not-fails : {a : Bool} → a ≡ true → fails a ≡ false
+unfolding fails
+→not-fails {a = true} h = refl
+→not-fails {a = false} h = absurd (false≢true h)
 
 pub implies→ : {a b : Bool} → (a implies b) ≡ true → a ≡ true → b ≡ true
 unfolding _implies_
@@ -144,6 +159,14 @@ pub →upto : {m n : ℕ} → m ≤ n → (m upto n) ≡ true
 unfolding _upto_
 →upto {m} {n} h = le-leb m n h
 
+pub not-upto→ : {m n : ℕ} → (m upto n) ≡ false → n < m
+unfolding _upto_
+not-upto→ {m} {n} h = leb-false m n h
+
+pub →not-upto : {m n : ℕ} → n < m → (m upto n) ≡ false
+unfolding _upto_
+→not-upto {m} {n} h = lt-leb m n h
+
 -- the choice
 module _ {ℓ} {A : Type ℓ} where
   pub if-true : {b : Bool} (x y : A) → b ≡ true → (if b then x else y) ≡ x
@@ -183,6 +206,23 @@ pub →none : {n : ℕ} (p : ℕ → Bool) → ((i : ℕ) → i < n → p i ≡ 
 
 pub none-below : {i : ℕ} (n : ℕ) (p : ℕ → Bool) → some i p ≡ false → n ≤ i → some n p ≡ false
 none-below n p h l = →none p (λ (j : ℕ) (k : j < n). none→ p h j (omega arith))
+
+-- tests that agree below n
+pub some-same : (n : ℕ) (p q : ℕ → Bool) → ((i : ℕ) → i < n → p i ≡ q i) → some n p ≡ some n q
+unfolding some
+some-same zero p q f = refl
+some-same (suc n) p q f = rw (some-same n p q (λ (i : ℕ) (h : i < n). f i (omega arith)), f n (omega arith)) refl
+
+-- .. one test or another
+pub some-either : (n : ℕ) (p q : ℕ → Bool) → some n p ≡ true → some n (λ i. p i or q i) ≡ true
+some-either n p q h = let r = some→ h in →some _ (r .0) (r .1) (→or-left _ (r .2))
+
+pub some-other : (n : ℕ) (p q : ℕ → Bool) → some n p ≡ false → some n (λ i. p i or q i) ≡ some n q
+some-other n p q h = go (decide (some n q))
+  where
+    go : (some n q ≡ true) ⊎ (some n q ≡ false) → some n (λ i. p i or q i) ≡ some n q
+    go (inl k) = let r = some→ k in →some _ (r .0) (r .1) (→or-right _ (r .2)) ∙ sym k
+    go (inr k) = →none _ (λ (i : ℕ) (l : i < n). or-no (p i) (none→ q k i l) ∙ none→ p h i l) ∙ sym k
 
 pub every→ : {n : ℕ} (p : ℕ → Bool) → every n p ≡ true → (i : ℕ) → i < n → p i ≡ true
 unfolding every
@@ -224,13 +264,17 @@ lowest-none {n = suc n} p h =
     let b : p n ≡ false = none→ {n = suc n} p h n (omega arith) in
     if-false (lowest n p) (if p n then n else suc n) a ∙ if-false n (suc n) b
 
-pub lowest-some : {n : ℕ} (p : ℕ → Bool) → lowest n p < n → some n p ≡ true
-lowest-some {n} p h = to-true _ (λ k. let e : lowest n p ≡ n = lowest-none p k in omega arith)
+pub lowest-passes : {n : ℕ} (p : ℕ → Bool) → lowest n p < n → some n p ≡ true
+lowest-passes {n} p h = to-true _ (λ k. let e : lowest n p ≡ n = lowest-none p k in omega arith)
 
 pub lowest-bound : {n : ℕ} (p : ℕ → Bool) → lowest n p ≤ n
 lowest-bound {n} p =
     ⊎-elim (λ (k : some n p ≡ true). let z : lowest n p < n = lowest-is p k .0 in omega arith)
     (λ (k : some n p ≡ false). let z : lowest n p ≡ n = lowest-none p k in omega arith) (decide (some n p))
+
+-- where the lowest is not below n, none passes
+pub lowest-some : {n : ℕ} (p : ℕ → Bool) → n ≤ lowest n p → some n p ≡ false
+lowest-some {n} p h = to-false (some n p) (λ k. let r = lowest-is p k .0 in omega arith)
 
 -- a number that passes while nothing below it does is the lowest
 pub lowest-at : {n : ℕ} (p : ℕ → Bool) (i : ℕ) → i < n → p i ≡ true → ((j : ℕ) → j < i → p j ≡ false) → lowest n p ≡ i
@@ -281,10 +325,13 @@ pub some-next : (i : ℕ) (p : ℕ → Bool) → some (i + 1) p ≡ (some i p or
 unfolding some
 some-next i p = rw (add-one i) refl
 
+pub none-next : (i : ℕ) (p : ℕ → Bool) → some i p ≡ false → p i ≡ false → some (i + 1) p ≡ false
+none-next i p h k = some-next i p ∙ or-no (some i p) k ∙ h
+
 pub every-next : (i : ℕ) (p : ℕ → Bool) → every (i + 1) p ≡ (every i p and p i)
 unfolding every
 every-next i p = rw (add-one i) refl
 
--- nothing up to i passes, and neither does i
-pub none-next : (i : ℕ) (p : ℕ → Bool) → some i p ≡ false → p i ≡ false → some (i + 1) p ≡ false
-none-next i p h q = some-next i p ∙ or-no _ q ∙ h
+-- a question over all numbers below n is one over those from 0 on
+pub from-first : (n : ℕ) (p : ℕ → Bool) → some n p ≡ some n (λ i. 0 upto i and p i)
+from-first n p = some-same n p (λ i. 0 upto i and p i) (λ i h. sym (and-true (→upto (omega arith))))

@@ -2,6 +2,7 @@
 pub mod Tests
 pub mod Lists
 pub mod First
+pub mod Listed
 pub mod Order
 pub mod Cycle
 pub mod Shows

@@ -5,7 +5,7 @@ use native.Mathlib.Omega.{arith}
 use Rattle.graph.specs.Tests.{_is_, _below_, _and_, some}
 use Rattle.graph.specs.Matrix.{joined}
 use Rattle.graph.specs.Steps.{entry, Marked}
-use Rattle.graph.proofs.Truth.{not-both, to-false, and→, →and, and-yes, and-no-left, and-no-right, →below, →not-below, →is, →isnt, none-next}
+use Rattle.graph.proofs.Truth.{not-both, to-false, and→, →and, and-true, and-no-left, and-no-right, →below, →not-below, →is, →isnt, none-next}
 use Rattle.graph.proofs.Marks.{zero-out, joined→}
 use Rattle.graph.proofs.Layers.{marked-old, marked-for, marked-past, marked-last}
 use Rattle.graph.proofs.cycle.layer.Statement.{statement}
@@ -50,7 +50,7 @@ loop-again c =
     λ a b. marked-old (at .inv .2) (at .u) (here .d) a b (λ (e : here .d ≡ here .d + 1). omega arith) (λ (e : here .d ≡ 128). omega arith) in (
       omega arith,
       omega arith,
-      ⊎-elim (λ w. rw (w .3) (marked-for _ (at .u) (at .inv .2) _ (omega arith) (λ t. and-yes _ (→and (→below (w .0 .taken)) (sym (old (omega arith) (omega arith)) ∙ →is (w .1 .taken)))) (w .2 .ensures)))
+      ⊎-elim (λ w. rw (w .3) (marked-for _ (at .u) (at .inv .2) _ (omega arith) (λ t. and-true (→and (→below (w .0 .taken)) (sym (old (omega arith) (omega arith)) ∙ →is (w .1 .taken)))) (w .2 .ensures)))
           (⊎-elim (λ w. rw (w .2) (marked-past _ (at .u) (at .inv .2) (λ t. and-no-left _ (and-no-right _ (sym (old (omega arith) (omega arith)) ∙ →isnt (w .1 .left))))))
           (λ w. rw (w .1) (marked-past _ (at .u) (at .inv .2) (λ t. and-no-left _ (and-no-left _ (→not-below (w .0 .left))))))) (c .if1 .came),
     )

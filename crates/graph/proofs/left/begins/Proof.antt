@@ -2,7 +2,7 @@ use mathlib.Core.Path.{sym, ap, _∙_}
 use native.Mathlib.Omega.{arith}
 use Rattle.graph.specs.Tests.{fails}
 use Rattle.graph.specs.Steps.{free}
-use Rattle.graph.proofs.Truth.{to-false, not-fails, and-yes, →and, →below}
+use Rattle.graph.proofs.Truth.{to-false, not-fails, and-true, →and, →below}
 use Rattle.graph.proofs.Peel.{free→}
 use Rattle.graph.proofs.Marks.{part→, →part}
 use borrow.Author.Needs.{needs}
@@ -30,7 +30,7 @@ blocked-requires c κs = search needs
 returns-4 : tie.Need-returns-4
 unfolding free
 returns-4 c =
-    not-fails _ ∙ ap fails (c .blocked .ensures) ∙ sym (and-yes _ (→and (→below (omega arith)) (→part 128 _ _ (record { low = omega arith; high = omega arith; mark = c .before .if3 .left }))))
+    not-fails _ ∙ ap fails (c .blocked .ensures) ∙ sym (and-true (→and (→below (omega arith)) (→part 128 _ _ (record { low = omega arith; high = omega arith; mark = c .before .if3 .left }))))
 
 pub begins-spec : {M : Type 1} → statement M
 begins-spec =

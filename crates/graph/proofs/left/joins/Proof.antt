@@ -2,7 +2,7 @@ use Rattle.graph.specs.Tests.{_is_}
 use Rattle.graph.specs.Matrix.{joined}
 use mathlib.Core.Path.{sym, _∙_}
 use native.Mathlib.Omega.{arith}
-use Rattle.graph.proofs.Truth.{to-false, not-fails, and-yes, →and, →fails, →isnt}
+use Rattle.graph.proofs.Truth.{to-false, not-fails, and-true, →and, →fails, →isnt}
 use Rattle.graph.proofs.Marks.{joined→, part→, →part}
 use borrow.Author.Needs.{needs}
 use Rattle.graph.proofs.left.joins.Statement.{statement}
@@ -48,7 +48,7 @@ returns-4 : tie.Need-returns-4
 unfolding joined _is_
 returns-4 c =
     let a = c .before .before .before .before .before .before .args in
-    not-fails _ ∙ sym (and-yes _ (→and (→and (→fails (→isnt (c .before .before .before .before .before .if1 .left))) (→part 128 _ _ (record { low = omega arith; high = omega arith; mark = c .before .before .before .if2 .left })))
+    not-fails _ ∙ sym (and-true (→and (→and (→fails (→isnt (c .before .before .before .before .before .if1 .left))) (→part 128 _ _ (record { low = omega arith; high = omega arith; mark = c .before .before .before .if2 .left })))
     (→part 128 _ _ (record { low = omega arith; high = omega arith; mark = c .before .if3 .left }))))
 
 pub joins-spec : {M : Type 1} → statement M

@@ -7,7 +7,7 @@ use borrow.Author.Tests.{not-true, not-false}
 use Rattle.graph.specs.Tests.{fails}
 use Rattle.graph.specs.Matrix.{matrix-order}
 use Rattle.graph.specs.Steps.{unmarked}
-use Rattle.graph.proofs.Truth.{not-fails, and-yes, and-no-left}
+use Rattle.graph.proofs.Truth.{not-fails, and-true, and-no-left}
 use Rattle.graph.proofs.Peel.{free→}
 use Rattle.graph.proofs.Marks.{Part, part→, matrix-turn, matrix-end}
 use Rattle.graph.proofs.order.keeps.Statement.{statement}
@@ -59,7 +59,7 @@ loop-again : tie.Need-loop-again Inv-loop μ-loop
 unfolding unmarked
 loop-again c =
     let at = c .before .before .before .before .before .loop in
-    (omega arith, simp length-set (omega arith), at .inv .2 ∙ matrix-turn 128 _ _ (omega arith) _ (at .i) (omega arith) ∙ and-yes _ (sym (c .before .begins .ensures) ∙ not-false _ (c .if1 .left)))
+    (omega arith, simp length-set (omega arith), at .inv .2 ∙ matrix-turn 128 _ _ (omega arith) _ (at .i) (omega arith) ∙ and-true (sym (c .before .begins .ensures) ∙ not-false _ (c .if1 .left)))
 
 some-left-requires : tie.Need-some-left-requires Inv-loop μ-loop
 some-left-requires c κs = search needs

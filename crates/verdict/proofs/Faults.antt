@@ -1,0 +1,70 @@
+-- The clean verdict at a step and of a log, from the answers to the questions that decide it.
+use mathlib.Core.Path.{_≡_, refl, sym, ap, _∙_}
+use mathlib.Core.Bool.{Bool, true, false}
+use mathlib.Core.List.{List}
+use Prim.Native.Nat.{ℕ, suc, _+_, _≤_, _<_}
+use native.Mathlib.Numerals.{add-one}
+use native.Mathlib.Omega.{arith}
+use Rattle.graph.specs.Tests.{_is_, _below_, _upto_, _and_, _or_, fails, if_then_else_, some, lowest}
+use Rattle.graph.proofs.Truth.{not-both, to-true, →and, and-no-left, and-no-right, and-true, →or-left, or-false, →fails, →not-fails, →is, →isnt, if-true, if-false, lowest-none, lowest-some, some-same}
+use Rattle.verdict.specs.Log.{steps, kind, tx, obj, src, reads, writes, committed, aborted}
+use Rattle.verdict.specs.Clean.{Fault, aborted-at, unfinal-at, Cleanness, clean, unclean, judged, judged-other, writes-later, final-source, faulty-read, is-clean, fault-at, cleanness}
+
+module _ (log : List ℕ) (i : ℕ) where
+  pub not-a-read : (kind log i ≡ 2 → ⊥) → faulty-read log i ≡ false
+  unfolding faulty-read judged-other judged reads
+  not-a-read k = and-no-left _ (and-no-left _ (and-no-left _ (→isnt k)))
+
+  pub own-read : src log i ≡ tx log i → faulty-read log i ≡ false
+  unfolding faulty-read judged-other
+  own-read e = and-no-left _ (and-no-right _ (→not-fails (→is e)))
+
+  pub not-committed : committed log (tx log i) ≡ false → faulty-read log i ≡ false
+  unfolding faulty-read judged-other judged
+  not-committed c = and-no-left _ (and-no-left _ (and-no-right _ c))
+
+  pub source-zero : src log i ≡ 0 → faulty-read log i ≡ false
+  unfolding faulty-read final-source
+  source-zero z = and-no-right _ (→not-fails (→or-left _ (→is z)))
+
+  -- a judged read from another than 0
+  module _ (k : kind log i ≡ 2) (n : src log i ≡ tx log i → ⊥) (z : src log i ≡ 0 → ⊥) (c : committed log (tx log i) ≡ true) where
+    is-judged : judged-other log i ≡ true
+    unfolding judged-other judged reads
+    is-judged = →and (→and (→is k) c) (→fails (→isnt n))
+
+    pub source-open : committed log (src log i) ≡ false → faulty-read log i ≡ true
+    unfolding faulty-read final-source
+    source-open u = →and is-judged (→fails (or-false (→isnt z) ∙ and-no-left _ u))
+
+    pub source-later : committed log (src log i) ≡ true → faulty-read log i ≡ writes-later log i (src log i) (obj log i)
+    unfolding faulty-read final-source
+    source-later u = and-true is-judged ∙ ap fails (or-false (→isnt z) ∙ and-true u) ∙ twice (writes-later log i (src log i) (obj log i))
+      where
+        twice : (b : Bool) → fails (fails b) ≡ b
+        twice true = unfold fails in refl
+        twice false = unfold fails in refl
+
+-- the steps later than i are those from i + 1 on
+pub later-from : (log : List ℕ) (i t x : ℕ) → writes-later log i t x ≡ some (steps log) (λ j. i + 1 upto j and writes log t x j)
+unfolding writes-later _below_ _upto_
+later-from log i t x = some-same (steps log) _ _ (λ j h. ap (λ (b : Bool). b and writes log t x j) (rw (add-one i) refl))
+
+-- the verdict, by the lowest faulty step
+module _ (log : List ℕ) where
+  pub no-fault : steps log ≤ lowest (steps log) (faulty-read log) → cleanness log ≡ clean
+  unfolding cleanness is-clean
+  no-fault h = if-true _ _ (→fails (lowest-some (faulty-read log) h))
+
+  module _ (k : ℕ) (e : k ≡ lowest (steps log) (faulty-read log)) (h : k < steps log) where
+    faulty : cleanness log ≡ unclean (fault-at log k)
+    unfolding cleanness is-clean
+    faulty = if-false _ _ (→not-fails (to-true _ (λ n. let z : lowest (steps log) (faulty-read log) ≡ steps log = lowest-none (faulty-read log) n in omega arith))) ∙ ap (λ (j : ℕ). unclean (fault-at log j)) (sym e)
+
+    pub from-aborted : aborted log (src log k) ≡ true → cleanness log ≡ unclean (aborted-at k)
+    unfolding fault-at
+    from-aborted a = faulty ∙ ap unclean (if-true _ _ a)
+
+    pub from-unfinal : aborted log (src log k) ≡ false → cleanness log ≡ unclean (unfinal-at k)
+    unfolding fault-at
+    from-unfinal a = faulty ∙ ap unclean (if-false _ _ a)

@@ -1,0 +1,108 @@
+-- What is known of a log that no number turns away.
+use mathlib.Core.Path.{_≡_, refl, sym, subst}
+use mathlib.Core.Bool.{Bool, true, false}
+use mathlib.Core.Logic.{_⊎_, inl, inr, ⊎-elim}
+use mathlib.Core.List.{List}
+use Prim.Native.Nat.{ℕ, zero, suc, _≤_, _<_}
+use native.Mathlib.Omega.{arith}
+use native.Mathlib.Nat.{not-suc-le-zero}
+use Rattle.graph.specs.Tests.{_is_, _below_, _upto_, _and_, _or_, fails}
+use Rattle.verdict.specs.Limits.{transactions, objects}
+use Rattle.verdict.specs.Log.{steps, kind, tx, obj, src, commits, writer}
+use Rattle.verdict.specs.Refusal.{Refusal, taken, refused, _at_when_, _else-try_, tried, object-allowed, begun, ended, wrote, range-refusal, life-refusal, source-refusal, step-refusal, log-refusal}
+use Rattle.graph.proofs.Truth.{decide, not-both, to-true, and→, →and, →or-left, →or-right, →fails, is→, →is, →isnt, upto→, below→, not-below→, some→, →some, if-true}
+
+Is-taken : Refusal → Type 0
+Is-taken taken = Unit {0}
+Is-taken (refused n p) = ⊥
+
+pub refused≢taken : {n p : ℕ} → refused n p ≡ taken → ⊥
+unfolding Is-taken
+refused≢taken e = subst Is-taken (sym e) tt
+
+pub else-try→ : {a b : Refusal} → (a else-try b) ≡ taken → (a ≡ taken) × (b ≡ taken)
+unfolding _else-try_
+else-try→ {a = taken} {b} h = (refl, h)
+else-try→ {a = refused n p} {b} h = absurd (refused≢taken h)
+
+pub when→ : (n p : ℕ) (b : Bool) → (n at p when b) ≡ taken → b ≡ false
+unfolding _at_when_
+when→ n p true h = absurd (refused≢taken h)
+when→ n p false h = refl
+
+pub tried→ : {n : ℕ} (f : ℕ → Refusal) → tried n f ≡ taken → (i : ℕ) → i < n → f i ≡ taken
+unfolding tried
+tried→ {n = zero} f h i k = absurd (not-suc-le-zero k)
+tried→ {n = suc n} f h i k = go (decide (i below n)) (else-try→ h .1) (λ m. tried→ {n = n} f (else-try→ h .0) i m)
+  where
+    go : ((i below n) ≡ true) ⊎ ((i below n) ≡ false) → f n ≡ taken → (i < n → f i ≡ taken) → f i ≡ taken
+    go (inl m) q rec = rec (below→ m)
+    go (inr m) q rec = let e : i ≡ n = omega (arith, not-below→ m) in rw e q
+
+module _ (log : List ℕ) (well : log-refusal log ≡ taken) where
+  step-taken : (i : ℕ) → i < steps log → step-refusal log i ≡ taken
+  unfolding log-refusal
+  step-taken = tried→ _ (else-try→ (else-try→ (else-try→ well .1) .1) .0)
+
+  -- the tests that the theorems rest on fail at each step
+  module _ (i : ℕ) (h : i < steps log) where
+    ranges : range-refusal i (kind log i) (tx log i) (obj log i) (src log i) ≡ taken
+    unfolding step-refusal
+    ranges = else-try→ (step-taken i h) .0
+
+    test-4 : fails (1 upto tx log i and tx log i upto transactions) ≡ false
+    unfolding range-refusal
+    test-4 = when→ 4 i _ (else-try→ (else-try→ ranges .1) .0)
+
+    test-5 : fails (object-allowed (kind log i) (obj log i)) ≡ false
+    unfolding range-refusal
+    test-5 = when→ 5 i _ (else-try→ (else-try→ (else-try→ ranges .1) .1) .0)
+
+    test-8 : (fails (kind log i is 1) and (fails (begun log i (tx log i)) or ended log i (tx log i))) ≡ false
+    unfolding step-refusal life-refusal
+    test-8 = when→ 8 i _ (else-try→ (else-try→ (else-try→ (step-taken i h) .1) .0) .1)
+
+    test-9 : (kind log i is 2 and fails (src log i is 0) and fails (wrote log i (src log i) (obj log i))) ≡ false
+    unfolding step-refusal source-refusal
+    test-9 = when→ 9 i _ (else-try→ (else-try→ (else-try→ (step-taken i h) .1) .1) .0)
+
+    -- transactions are 1..128
+    tx-range : (1 ≤ tx log i) × (tx log i ≤ transactions)
+    tx-range = let r = and→ (to-true _ (λ q. not-both (→fails q) test-4)) in (upto→ (r .0), upto→ (r .1))
+
+    -- objects of reads and writes are 0..63
+    object-range : (kind log i ≡ 2) ⊎ (kind log i ≡ 3) → obj log i < objects
+    unfolding object-allowed
+    object-range k =
+        let t : (kind log i is 2 or kind log i is 3) ≡ true = ⊎-elim (λ (e : kind log i ≡ 2). →or-left _ (→is e)) (λ (e : kind log i ≡ 3). →or-right _ (→is e)) k in
+        below→ (rw (if-true (obj log i below objects) (obj log i is 0) t) at (to-true _ (λ q. not-both (→fails q) test-5)))
+
+    -- a source other than 0 wrote the object in an earlier step
+    source-wrote : kind log i ≡ 2 → (src log i ≡ 0 → ⊥) → writer log (obj log i) (src log i) ≡ true
+    unfolding wrote writer
+    source-wrote k n =
+        let r = some→ (to-true (wrote log i (src log i) (obj log i)) (λ q. not-both (→and (→and (→is k) (→fails (→isnt n))) (→fails q)) test-9)) in
+        →some _ (r .0) (omega (arith, r .1)) (r .2)
+
+  -- a transaction ends once, so it commits once
+  commits-once : (t i j : ℕ) → i < j → j < steps log → commits log t i ≡ true → commits log t j ≡ true → ⊥
+  unfolding commits ended
+  commits-once t i j h k p q =
+      let e : tx log j ≡ t = is→ (and→ q .1) in
+      let f : kind log j ≡ 4 = is→ (and→ q .0) in
+      let g : ended log j (tx log j) ≡ true = →some _ i h (→or-left _ (rw e p)) in
+      not-both (→and (→fails (→isnt (λ (z : kind log j ≡ 1). omega arith))) (→or-right _ g)) (test-8 j k)
+
+-- What the theorems need of a log, with transactions at most `most`.
+pub record Well (most : ℕ) (log : List ℕ) : Type 0 where
+  -- transactions are 1 to `most`
+  pub range : (i : ℕ) → i < steps log → (1 ≤ tx log i) × (tx log i ≤ most)
+  -- objects of reads and writes are 0..63
+  pub object : (i : ℕ) → i < steps log → (kind log i ≡ 2) ⊎ (kind log i ≡ 3) → obj log i < objects
+  -- a source other than 0 wrote the object
+  pub source : (i : ℕ) → i < steps log → kind log i ≡ 2 → (src log i ≡ 0 → ⊥) → writer log (obj log i) (src log i) ≡ true
+  -- a transaction commits once
+  pub once : (t i j : ℕ) → i < j → j < steps log → commits log t i ≡ true → commits log t j ≡ true → ⊥
+
+pub well-formed : (log : List ℕ) → log-refusal log ≡ taken → Well transactions log
+well-formed log well = record { range = tx-range log well; object = object-range log well; source = source-wrote log well; once = commits-once log well }

@@ -1,0 +1,59 @@
+use mathlib.Core.Path.{_≡_, refl, sym, _∙_}
+use mathlib.Core.Bool.{false}
+use Prim.Native.Nat.{_-_, _/_, _≤_}
+use native.Mathlib.Omega.{arith}
+use lib.ListN.{length}
+use Rattle.graph.specs.Tests.{some}
+use Rattle.verdict.specs.Log.{steps}
+use Rattle.verdict.specs.Clean.{faulty-read}
+use Rattle.graph.proofs.Truth.{none→, lowest-none, lowest-at, none-next}
+use Rattle.verdict.proofs.cleanness.first_fault.Statement.{statement}
+use Rattle.verdict.proofs.cleanness.first_fault.Tie as tie
+
+abbrev Inv-loop : tie.InvT-loop
+Inv-loop log n i₀ i = (n ≡ length log / 4) × (i ≤ n) × (some i (faulty-read log) ≡ false)
+
+abbrev μ-loop : tie.MeasureT-loop
+μ-loop log n i₀ i = n - i
+
+loop-holds : tie.Need-loop-holds Inv-loop μ-loop
+unfolding some
+loop-holds c = (refl, omega arith, refl)
+
+is-faulty-requires : tie.Need-is-faulty-requires Inv-loop μ-loop
+is-faulty-requires c κs = omega arith
+
+returns : tie.Need-returns Inv-loop μ-loop
+unfolding steps
+returns c =
+    let at = c .before .before .before in
+    sym (lowest-at (faulty-read (at .before .before .args .log .now)) (at .loop .i) (omega arith) (sym (c .before .is-faulty .ensures) ∙ c .if1 .taken) (none→ _ (at .loop .inv .2)))
+
+add-i : tie.Need-add-i Inv-loop μ-loop
+add-i c = omega arith
+
+loop-less : tie.Need-loop-less Inv-loop μ-loop
+loop-less c = omega arith
+
+loop-again : tie.Need-loop-again Inv-loop μ-loop
+loop-again c = let at = c .before .before .before in (refl, omega arith, none-next _ _ (at .loop .inv .2) (sym (c .before .is-faulty .ensures) ∙ c .if1 .left))
+
+returns-2 : tie.Need-returns-2 Inv-loop μ-loop
+unfolding steps
+returns-2 c =
+    let e : c .before .loop .i ≡ length (c .before .before .before .args .log .now) / 4 = omega arith in
+    e ∙ sym (lowest-none (faulty-read (c .before .before .before .args .log .now)) (rw e at (c .before .loop .inv .2)))
+
+pub first-fault-spec : {M : Type 1} → statement M
+first-fault-spec =
+    tie.close
+    (tie.spec
+    Inv-loop
+    μ-loop
+    loop-holds
+    is-faulty-requires
+    returns
+    add-i
+    loop-less
+    loop-again
+    returns-2)

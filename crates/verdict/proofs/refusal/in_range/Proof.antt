@@ -1,0 +1,58 @@
+use mathlib.Core.Path.{_≡_, sym, _∙_}
+use Prim.Native.Nat.{ℕ}
+use native.Mathlib.Omega.{arith}
+use borrow.Author.Needs.{needs}
+use Rattle.graph.specs.Tests.{_is_, fails}
+use Rattle.verdict.specs.Limits.{make-transaction}
+use Rattle.verdict.specs.Refusal.{_at_when_}
+use Rattle.verdict.specs.Walk.{numbered, in-range}
+use Rattle.graph.proofs.Truth.{→fails, →not-fails}
+use borrow.Author.Tests.{not-true, not-false}
+use Rattle.verdict.proofs.Refused.{when-yes, when-no, first-yes, first-no, chose-first, chose-second}
+use Rattle.verdict.proofs.refusal.in_range.Statement.{statement}
+use Rattle.verdict.proofs.refusal.in_range.Tie as tie
+
+of-requires : tie.Need-of-requires
+of-requires c κs = search needs
+
+enum-told : tie.Need-enum-told
+enum-told c = search needs
+
+enum-told-2 : tie.Need-enum-told-2
+enum-told-2 c = search needs
+
+returns : tie.Need-returns
+unfolding in-range make-transaction numbered _at_when_ fails _is_
+returns c = λ place. sym (first-yes 4 place _ (→fails (chose-second _ _ _ (sym (c .before .before .of .ensures) ∙ c .enum-told2 .given .1) (λ e. let z : _≡_ {A = ℕ} 0 1 = cc in omega arith))))
+
+object-fits-requires : tie.Need-object-fits-requires
+object-fits-requires c κs = search needs
+
+returns-2 : tie.Need-returns-2
+unfolding in-range make-transaction numbered _at_when_ fails _is_
+returns-2 c = λ place. sym (first-no 4 place _ (→not-fails (chose-first _ _ _ (sym (c .before .before .before .before .of .ensures) ∙ c .before .before .enum-told .given .1) (λ e. let z : _≡_ {A = ℕ} 0 1 = cc in omega arith))) ∙ first-yes 5 place _ (→fails (sym (c .before .object-fits .ensures) ∙ not-true _ (c .if1 .taken))))
+
+source-fits-requires : tie.Need-source-fits-requires
+source-fits-requires c κs = search needs
+
+returns-3 : tie.Need-returns-3
+unfolding in-range make-transaction numbered _at_when_ fails _is_
+returns-3 c = λ place. sym (first-no 4 place _ (→not-fails (chose-first _ _ _ (sym (c .before .before .before .before .before .before .of .ensures) ∙ c .before .before .before .before .enum-told .given .1) (λ e. let z : _≡_ {A = ℕ} 0 1 = cc in omega arith))) ∙ first-no 5 place _ (→not-fails (sym (c .before .before .before .object-fits .ensures) ∙ not-false _ (c .before .before .if1 .left))) ∙ when-yes 6 place (→fails (sym (c .before .source-fits .ensures) ∙ not-true _ (c .if2 .taken))))
+
+returns-4 : tie.Need-returns-4
+unfolding in-range make-transaction numbered _at_when_ fails _is_
+returns-4 c = λ place. sym (first-no 4 place _ (→not-fails (chose-first _ _ _ (sym (c .before .before .before .before .before .before .of .ensures) ∙ c .before .before .before .before .enum-told .given .1) (λ e. let z : _≡_ {A = ℕ} 0 1 = cc in omega arith))) ∙ first-no 5 place _ (→not-fails (sym (c .before .before .before .object-fits .ensures) ∙ not-false _ (c .before .before .if1 .left))) ∙ when-no 6 place (→not-fails (sym (c .before .source-fits .ensures) ∙ not-false _ (c .if2 .left))))
+
+pub in-range-spec : {M : Type 1} → statement M
+in-range-spec =
+    tie.close
+    (tie.spec
+    of-requires
+    enum-told
+    enum-told-2
+    returns
+    object-fits-requires
+    returns-2
+    source-fits-requires
+    returns-3
+    returns-4)

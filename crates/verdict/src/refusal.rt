@@ -1,0 +1,201 @@
+// The check of a log: the first of the numbers 1 to 11 that applies, with its place.
+use crate::Checked;
+use crate::limits::Log;
+use crate::limits::MadeLog;
+use crate::limits::MadeObject;
+use crate::limits::MadeTransaction;
+use crate::limits::Object;
+use crate::limits::Transaction;
+use crate::walk::ended_before;
+use crate::walk::seen;
+use crate::walk::writes_within;
+ghost use mathlib.Core.Path.{_≡_};
+ghost use Prim.Native.Nat.{ℕ, suc, _≤_, _+_, _*_};
+ghost use lib.ListN.{length};
+ghost use Rattle.graph.specs.Tests.{_is_, _below_, _upto_, fails, if_then_else_};
+ghost use Rattle.verdict.specs.Limits.{transactions, objects, work-bytes};
+ghost use Rattle.verdict.specs.Log.{steps};
+ghost use Rattle.verdict.specs.Refusal.{_at_when_, _else-try_, tried, range-refusal, life-refusal, source-refusal, step-refusal, open-refusal, log-refusal};
+ghost use Rattle.verdict.specs.Said.{said-refusal};
+ghost use Rattle.verdict.specs.Walk.{numbered, in-range};
+
+// Whether an object is as the kind allows it: any object, or only 0.
+fn object_fits(any: bool, x: u16) -> bool
+    ensures { λ r. ⌜ r ≡ (if any then x below objects else x is 0) ⌝ }
+{
+    if any {
+        let made = Object::of(x);
+        return match made {
+            MadeObject::Within(_) => true,
+            MadeObject::Beyond => false,
+        };
+    }
+    x == 0
+}
+
+// Whether a source is as the kind allows it: any transaction or 0, or only 0.
+fn source_fits(any: bool, s: u16) -> bool
+    ensures { λ r. ⌜ r ≡ (if any then s upto transactions else s is 0) ⌝ }
+{
+    if any {
+        return s <= Transaction::LIMIT;
+    }
+    s == 0
+}
+
+// The first of 4, 5 and 6 that applies, by what the kind allows as object and source; 0 if none does.
+fn in_range(t: u16, x: u16, s: u16, any_object: bool, any_source: bool) -> u16
+    ensures { λ r. ⌜ ((place : ℕ) → numbered r place ≡ in-range place t x s «any_object» «any_source») ⌝ }
+{
+    let made = Transaction::of(t);
+    let MadeTransaction::Within(_) = made else {
+        return 4;
+    };
+    if !object_fits(any_object, x) {
+        return 5;
+    }
+    if !source_fits(any_source, s) {
+        return 6;
+    }
+    0
+}
+
+// The first of 3 to 6 that applies to the numbers of a step; 0 if none does.
+fn range_number(k: u16, t: u16, x: u16, s: u16) -> u16
+    ensures { λ r. ⌜ ((place : ℕ) → numbered r place ≡ range-refusal place k t x s) ⌝ }
+{
+    match k {
+        1 => in_range(t, x, s, false, false),
+        2 => in_range(t, x, s, true, true),
+        3 => in_range(t, x, s, true, false),
+        4 => in_range(t, x, s, false, false),
+        5 => in_range(t, x, s, false, false),
+        _ => 3,
+    }
+}
+
+// 7 or 8, where it applies to step i; else 0.
+fn life_number(log: &[u16], i: usize) -> u16
+    requires { ⌜ 4 * i + 4 ≤ length (now log) ⌝ }
+    ensures { λ r. ⌜ numbered r i ≡ life-refusal (now (log .entry)) i ⌝ }
+{
+    let k = log[4 * i];
+    let t = log[4 * i + 1];
+    let begun = seen(log, i, 1, t);
+    if k == 1 {
+        if begun {
+            return 7;
+        }
+        return 0;
+    }
+    if !begun {
+        return 8;
+    }
+    if ended_before(log, i, t) {
+        return 8;
+    }
+    0
+}
+
+// 9 or 10, where it applies to step i; else 0.
+fn source_number(log: &[u16], i: usize) -> u16
+    requires { ⌜ 4 * i + 4 ≤ length (now log) ⌝ }
+    ensures { λ r. ⌜ numbered r i ≡ source-refusal (now (log .entry)) i ⌝ }
+{
+    let k = log[4 * i];
+    let t = log[4 * i + 1];
+    let x = log[4 * i + 2];
+    let s = log[4 * i + 3];
+    if k != 2 {
+        return 0;
+    }
+    if s != 0 {
+        if !writes_within(log, 0, i, s, x) {
+            return 9;
+        }
+    }
+    if s != t {
+        if writes_within(log, 0, i, t, x) {
+            return 10;
+        }
+    }
+    0
+}
+
+// The first of 3 to 10 that applies to step i; 0 if none does.
+fn step_number(log: &[u16], i: usize) -> u16
+    requires { ⌜ 4 * i + 4 ≤ length (now log) ⌝ }
+    ensures { λ r. ⌜ numbered r i ≡ step-refusal (now (log .entry)) i ⌝ }
+{
+    let range = range_number(log[4 * i], log[4 * i + 1], log[4 * i + 2], log[4 * i + 3]);
+    if range != 0 {
+        return range;
+    }
+    let life = life_number(log, i);
+    if life != 0 {
+        return life;
+    }
+    source_number(log, i)
+}
+
+// 3 to 10, step by step.
+fn check_steps(log: &[u16], n: usize) -> Checked
+    requires { ⌜ 4 * n ≤ length (now log) ⌝ }
+    ensures { λ r. ⌜ r ≡ said-refusal (tried n (step-refusal (now (log .entry)))) ⌝ }
+{
+    let mut i = 0;
+    while i < n {
+        let number = step_number(log, i);
+        if number != 0 {
+            return Checked::Refused(number, i);
+        }
+        i += 1;
+    }
+    Checked::Passed
+}
+
+// 11, at the lowest transaction begun and not ended.
+fn check_open(log: &[u16], n: usize) -> Checked
+    requires { ⌜ n ≡ steps (now log) ⌝ }
+    ensures { λ r. ⌜ r ≡ said-refusal (tried (suc transactions) (open-refusal (now (log .entry)))) ⌝ }
+{
+    let mut t: u16 = 0;
+    while t <= Transaction::LIMIT {
+        if seen(log, n, 1, t) {
+            if !ended_before(log, n, t) {
+                return Checked::Refused(11, t as usize);
+            }
+        }
+        t += 1;
+    }
+    Checked::Passed
+}
+
+// The first of 1 to 11 that applies, with its place, or that the log is well-formed.
+pub fn check(log: &[u16]) -> Checked
+    ensures { λ r. ⌜ r ≡ said-refusal (log-refusal (now (log .entry))) ⌝ }
+{
+    if log.len() % 4 != 0 {
+        return Checked::Refused(1, 0);
+    }
+    let n = log.len() / 4;
+    let made = Log::of(n);
+    let MadeLog::Within(_) = made else {
+        return Checked::Refused(2, 0);
+    };
+    let stepwise = check_steps(log, n);
+    let Checked::Passed = stepwise else {
+        return stepwise;
+    };
+    check_open(log, n)
+}
+
+// 12 where the work area has a wrong length, and then what the check finds.
+pub fn admit(log: &[u16], work: usize) -> Checked
+    ensures { λ r. ⌜ r ≡ said-refusal (12 at 0 when fails (work is work-bytes) else-try log-refusal (now (log .entry))) ⌝ }
+{
+    if work != Log::WORK {
+        return Checked::Refused(12, 0);
+    }
+    check(log)
+}

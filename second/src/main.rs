@@ -1,0 +1,125 @@
+//! The commands: report, orders, graphs, make, histogram.
+
+mod graph;
+mod graphs;
+mod histogram;
+mod log;
+mod make;
+mod permutations;
+mod replay;
+mod report;
+mod rng;
+#[cfg(test)]
+mod tests;
+mod text;
+mod verdicts;
+
+use std::ffi::OsString;
+use std::io::{self, BufWriter, ErrorKind, Read, Write};
+use std::path::Path;
+use std::process::ExitCode;
+
+const USAGE: &str = "second report [FILE ..]
+second orders [--most N] [FILE ..]
+second graphs
+second make small|damaged|texts|limits SEED COUNT DIR
+second histogram SEED COUNT";
+
+fn main() -> ExitCode {
+    let args: Vec<OsString> = std::env::args_os().skip(1).collect();
+    let out = &mut BufWriter::new(io::stdout().lock());
+    let done = run(&args, out).and_then(|good| out.flush().map(|_| good));
+    match done {
+        Ok(true) => ExitCode::SUCCESS,
+        Ok(false) => ExitCode::FAILURE,
+        Err(error) if error.kind() == ErrorKind::BrokenPipe => ExitCode::SUCCESS,
+        Err(error) => {
+            eprintln!("second: {error}");
+            ExitCode::FAILURE
+        }
+    }
+}
+
+/// Runs a command; false if something asked for was not to be had.
+fn run(args: &[OsString], out: &mut dyn Write) -> io::Result<bool> {
+    let words: Vec<&str> = args.iter().map(|arg| arg.to_str().unwrap_or("")).collect();
+    match words[..] {
+        ["report", ..] => each_text(&args[1..], out, &mut |text, out| {
+            out.write_all(report::report(text).as_bytes())
+        }),
+        ["orders", "--most", most, ..] => match most.parse() {
+            Ok(most) => orders(&args[3..], Some(most), out),
+            Err(_) => usage(),
+        },
+        ["orders", ..] => orders(&args[1..], None, out),
+        ["graphs"] => out.write_all(graphs::lines().as_bytes()).map(|_| true),
+        ["make", kind, seed, count, _] => {
+            match (make::Sort::named(kind), seed.parse(), count.parse()) {
+                (Some(sort), Ok(seed), Ok(count)) => write_texts(sort, seed, count, &args[4]),
+                _ => usage(),
+            }
+        }
+        ["histogram", seed, count] => match (seed.parse(), count.parse()) {
+            (Ok(seed), Ok(count)) => histogram(seed, count, out),
+            _ => usage(),
+        },
+        _ => usage(),
+    }
+}
+
+fn usage() -> io::Result<bool> {
+    eprintln!("{USAGE}");
+    Ok(false)
+}
+
+type Deal<'a> = dyn FnMut(&[u8], &mut dyn Write) -> io::Result<()> + 'a;
+
+/// Deals with standard input, or with each file under its name.
+fn each_text(files: &[OsString], out: &mut dyn Write, deal: &mut Deal) -> io::Result<bool> {
+    if files.is_empty() {
+        let mut text = Vec::new();
+        io::stdin().read_to_end(&mut text)?;
+        deal(&text, out)?;
+        return Ok(true);
+    }
+    let mut all_read = true;
+    for file in files {
+        match std::fs::read(file) {
+            Ok(text) => {
+                out.write_all(b"file=")?;
+                out.write_all(file.as_encoded_bytes())?;
+                out.write_all(b"\n")?;
+                deal(&text, out)?;
+            }
+            Err(error) => {
+                eprintln!("second: {}: {error}", Path::new(file).display());
+                all_read = false;
+            }
+        }
+    }
+    Ok(all_read)
+}
+
+fn orders(files: &[OsString], most: Option<usize>, out: &mut dyn Write) -> io::Result<bool> {
+    each_text(files, out, &mut |text, out| report::orders(text, most, out))
+}
+
+fn write_texts(sort: make::Sort, seed: u64, count: usize, dir: &OsString) -> io::Result<bool> {
+    std::fs::create_dir_all(dir)?;
+    for index in 1..=count {
+        let name = format!("{}-{index:04}.log", sort.name());
+        std::fs::write(Path::new(dir).join(name), sort.text(seed, index))?;
+    }
+    Ok(true)
+}
+
+fn histogram(seed: u64, count: usize, out: &mut dyn Write) -> io::Result<bool> {
+    let (lines, missed) = histogram::histogram(seed, count);
+    for line in lines {
+        writeln!(out, "{line}")?;
+    }
+    for outcome in &missed {
+        eprintln!("never reached: {outcome}");
+    }
+    Ok(missed.is_empty())
+}

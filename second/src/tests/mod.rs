@@ -1,0 +1,11 @@
+//! Tests: the paper's samples, the settled points, brute force against the
+//! plain algorithms, and what the made texts reach.
+
+mod agreement;
+mod damage;
+mod graphs;
+mod made;
+mod points;
+mod samples;
+mod short;
+mod texts;
