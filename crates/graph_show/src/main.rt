@@ -31,6 +31,7 @@ fn name(number: u64) {
     ;
 }
 
+// x, in a wider type.
 fn wide(x: u16) -> u64 {
     x as u64
 }
@@ -114,6 +115,7 @@ fn show(m: &mut [u8; 16384], number: u64) {
     }
 }
 
+// Shows the graphs one after another.
 fn main() {
     let mut m = [0u8; 16384];
     let mut number = 0;
