@@ -43,6 +43,19 @@ pub first-one : (earlier : List ℕ → List ℕ → Bool) → ((v w : List ℕ)
     → (passes : List ℕ → Bool) (v w : List ℕ) → First earlier passes v → First earlier passes w → v ≡ w
 first-one earlier same passes v w p q = same v w (q .none-earlier v (p .one)) (p .none-earlier w (q .one))
 
+-- what comes before another is lower at the first place, or the same there and before it in what follows
+pub dictionary→ : (a b : ℕ) (v w : List ℕ) → dictionary (a ∷ v) (b ∷ w) ≡ true → (a < b) ⊎ ((a ≡ b) × (dictionary v w ≡ true))
+unfolding dictionary
+dictionary→ a b v w h = ⊎-elim (λ k. inl (below→ k)) (λ k. inr (is→ (and→ k .0), and→ k .1)) (or→ h)
+
+pub dictionary-head : (a b : ℕ) (v w : List ℕ) → a < b → dictionary (a ∷ v) (b ∷ w) ≡ true
+unfolding dictionary
+dictionary-head a b v w h = →or-left _ (→below h)
+
+pub dictionary-tail : (a : ℕ) (v w : List ℕ) → dictionary v w ≡ true → dictionary (a ∷ v) (a ∷ w) ≡ true
+unfolding dictionary
+dictionary-tail a v w h = →or-right _ (→and (→is refl) h)
+
 pub dictionary-not : (a c : ℕ) (v u : List ℕ) → c ≤ a → (a ≡ c → dictionary v u ≡ false) → dictionary (a ∷ v) (c ∷ u) ≡ false
 unfolding dictionary
 dictionary-not a c v u h f =

@@ -1,12 +1,13 @@
--- The verdicts, computed by trying every list: for small logs. What is computed is the answer that the definitions ask for.
+-- What is shown of a graph, computed by trying every list: for small graphs. What is computed is the answer that the definitions ask for.
 use mathlib.Core.Path.{_≡_, refl}
 use mathlib.Core.Bool.{Bool, true, false≢true}
 use mathlib.Core.Logic.{_⊎_, inl, inr, ⊎-elim}
 use mathlib.Core.List.{List, [], _∷_}
 use mathlib.Core.Option.{Option, none, some as just}
-use Prim.Native.Nat.{ℕ, suc, _≤_, _<_}
+use Prim.Native.Nat.{ℕ, suc, _+_, _≤_, _<_}
 use native.Mathlib.Omega.{arith}
 use lib.ListN.{length}
+use Rattle.graph.specs.Tests.{count}
 use Rattle.graph.specs.Lists.{member, all, distinct}
 use Rattle.graph.specs.First.{shorter, First, Never}
 use Rattle.graph.specs.Listed.{Among, here, Listed}
@@ -17,7 +18,7 @@ use Rattle.graph.proofs.Truth.{to-false, and→, →and, →fails, impl
 use Rattle.graph.proofs.Dictionary.{shorter-asym}
 use Rattle.graph.proofs.Places.{all→, →all}
 use Rattle.graph.proofs.Search.{rising, ascending, tuples, short-tuples, sift, sift→, →sift, sift-rises, short-rise, →short, head-first, empty-never, tuples-listed, listed-first}
-use Rattle.graph.proofs.Pigeon.{pigeon, rising-distinct, ascending-rises, ascending-has, ascending-only}
+use Rattle.graph.proofs.Pigeon.{pigeon, rising-distinct, ascending-rises, ascending-has, ascending-only, ascending-length}
 
 -- the first of the cycles, or else the first of the orders
 unfoldable pub shown-by : List (List ℕ) → List (List ℕ) → Option Shown
@@ -37,6 +38,10 @@ module _ (n : ℕ) (node : ℕ → Bool) where
   pub nodes-rise : rising nodes ≡ true
   unfolding nodes
   nodes-rise = ascending-rises n node [] (unfold rising in refl) (λ t m. absurd (false≢true (unfold member in m)))
+
+  pub nodes-length : length nodes ≡ count n node
+  unfolding nodes
+  nodes-length = let e : length (ascending n node []) ≡ count n node + 0 = ascending-length n node [] in omega arith
 
   pub node-there : (t : ℕ) → t < n → node t ≡ true → member t nodes ≡ true
   unfolding nodes
@@ -76,7 +81,7 @@ module _ (n : ℕ) (node : ℕ → Bool) where
     cycle-distinct (a ∷ c) h =
         →and (→fails (to-false _ (λ m. let z : a < a = below→ (all→ _ c (and→ (and→ (and→ h .0) .0) .1) a m) in omega arith))) (and→ (and→ h .0) .1)
 
-    cycle-length : (c : List ℕ) → is-cycle edge c ≡ true → length c < suc (length nodes)
+    pub cycle-length : (c : List ℕ) → is-cycle edge c ≡ true → length c < suc (length nodes)
     cycle-length c h = let a : length c ≤ length nodes = pigeon c nodes (cycle-distinct c h) (all→ _ c (cycle-over c h)) in omega arith
 
     -- every cycle is among the short lists over the nodes

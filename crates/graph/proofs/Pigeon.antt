@@ -3,10 +3,10 @@ use mathlib.Core.Path.{_≡_, refl, sym, ap, _∙_}
 use mathlib.Core.Bool.{Bool, true, false, false≢true}
 use mathlib.Core.Logic.{_⊎_, inl, inr, ⊎-elim}
 use mathlib.Core.List.{List, [], _∷_}
-use Prim.Native.Nat.{ℕ, zero, suc, _≤_, _<_}
+use Prim.Native.Nat.{ℕ, zero, suc, _+_, _≤_, _<_}
 use native.Mathlib.Omega.{arith}
 use lib.ListN.{length}
-use Rattle.graph.specs.Tests.{_is_, _below_, if_then_else_}
+use Rattle.graph.specs.Tests.{_is_, _below_, if_then_else_, count}
 use Rattle.graph.specs.Lists.{member, distinct}
 use Rattle.graph.proofs.Truth.{decide, not-both, to-false, and→, →and, →fails, is→, isnt→, below→, →below, not-below→, if-true, if-false}
 use Rattle.graph.proofs.Places.{member→, all→, →all, member-head, member-tail, distinct→}
@@ -95,3 +95,12 @@ ascending-only (suc n) p l t m = go (decide (p n)) (ascending-only n p (if p n t
     go c (inl h) = inl (omega (arith, h .0), h .1)
     go (inl e) (inr h) = ⊎-elim (λ (k : t ≡ n). inl (omega arith, rw k e)) inr (member→ t n l (rw (if-true (n ∷ l) l e) at h))
     go (inr e) (inr h) = inr (rw (if-false (n ∷ l) l e) at h)
+
+pub ascending-length : (n : ℕ) (p : ℕ → Bool) (l : List ℕ) → length (ascending n p l) ≡ count n p + length l
+unfolding ascending count
+ascending-length zero p l = omega arith
+ascending-length (suc n) p l = ascending-length n p (if p n then n ∷ l else l) ∙ go (decide (p n))
+  where
+    go : (p n ≡ true) ⊎ (p n ≡ false) → count n p + length (if p n then n ∷ l else l) ≡ (if p n then suc (count n p) else count n p) + length l
+    go (inl e) = rw (if-true (n ∷ l) l e, if-true (suc (count n p)) (count n p) e) (omega arith)
+    go (inr e) = rw (if-false (n ∷ l) l e, if-false (suc (count n p)) (count n p) e) refl

@@ -1,7 +1,7 @@
 -- Laws of the tests of specs/Tests.antt. A test passes when it is `≡ true`.
 use mathlib.Core.Path.{_≡_, refl, sym, _∙_}
-use mathlib.Core.Bool.{Bool, true, false, true≢false, false≢true}
-use mathlib.Core.Logic.{_⊎_, inl, inr}
+use mathlib.Core.Bool.{Bool, true, false, not, true≢false, false≢true}
+use mathlib.Core.Logic.{_⊎_, inl, inr, ⊎-elim}
 use Prim.Native.Nat.{ℕ, zero, suc, _+_, _≤_, _<_}
 use native.Mathlib.Omega.{arith}
 use native.Mathlib.Nat.{not-suc-le-zero}
@@ -24,6 +24,12 @@ to-false false f = refl
 pub to-true : (b : Bool) → (b ≡ false → ⊥) → b ≡ true
 to-true true f = refl
 to-true false f = absurd (f refl)
+
+-- two tests of which each passes when the other does are one
+pub same-test : {a b : Bool} → (a ≡ true → b ≡ true) → (b ≡ true → a ≡ true) → a ≡ b
+same-test {a = true} {b} f g = sym (f refl)
+same-test {a = false} {b = true} f g = g refl
+same-test {a = false} {b = false} f g = refl
 
 -- the connectives
 pub and→ : {a b : Bool} → (a and b) ≡ true → (a ≡ true) × (b ≡ true)
@@ -85,6 +91,12 @@ pub →fails : {a : Bool} → a ≡ false → fails a ≡ true
 unfolding fails
 →fails {a = true} h = absurd (true≢false h)
 →fails {a = false} h = refl
+
+-- the code's `!`
+pub not-fails : (b : Bool) → not b ≡ fails b
+unfolding fails
+not-fails true = refl
+not-fails false = refl
 
 pub not-fails→ : {a : Bool} → fails a ≡ false → a ≡ true
 unfolding fails
@@ -192,6 +204,9 @@ none→ {n} p h i k = to-false (p i) (λ q. not-both (→some p i k q) h)
 pub →none : {n : ℕ} (p : ℕ → Bool) → ((i : ℕ) → i < n → p i ≡ false) → some n p ≡ false
 →none {n} p f = to-false (some n p) (λ h. let r = some→ h in not-both (r .2) (f (r .0) (r .1)))
 
+pub none-below : {i : ℕ} (n : ℕ) (p : ℕ → Bool) → some i p ≡ false → n ≤ i → some n p ≡ false
+none-below n p h l = →none p (λ (j : ℕ) (k : j < n). none→ p h j (omega arith))
+
 -- tests that agree below n
 pub some-same : (n : ℕ) (p q : ℕ → Bool) → ((i : ℕ) → i < n → p i ≡ q i) → some n p ≡ some n q
 unfolding some
@@ -249,12 +264,13 @@ lowest-none {n = suc n} p h =
     let b : p n ≡ false = none→ {n = suc n} p h n (omega arith) in
     if-false (lowest n p) (if p n then n else suc n) a ∙ if-false n (suc n) b
 
-pub lowest-bound : (n : ℕ) (p : ℕ → Bool) → lowest n p ≤ n
-lowest-bound n p = go (decide (some n p))
-  where
-    go : (some n p ≡ true) ⊎ (some n p ≡ false) → lowest n p ≤ n
-    go (inl k) = let r = lowest-is p k .0 in omega arith
-    go (inr k) = let e : lowest n p ≡ n = lowest-none p k in omega arith
+pub lowest-passes : {n : ℕ} (p : ℕ → Bool) → lowest n p < n → some n p ≡ true
+lowest-passes {n} p h = to-true _ (λ k. let e : lowest n p ≡ n = lowest-none p k in omega arith)
+
+pub lowest-bound : {n : ℕ} (p : ℕ → Bool) → lowest n p ≤ n
+lowest-bound {n} p =
+    ⊎-elim (λ (k : some n p ≡ true). let z : lowest n p < n = lowest-is p k .0 in omega arith)
+    (λ (k : some n p ≡ false). let z : lowest n p ≡ n = lowest-none p k in omega arith) (decide (some n p))
 
 -- nothing below the lowest passes
 pub below-lowest : (n : ℕ) (p : ℕ → Bool) (i : ℕ) → i < lowest n p → p i ≡ false
@@ -280,6 +296,9 @@ lowest-at {n} p i h q f = go (decide (lowest n p below i)) (decide (i below lowe
     go (inr a) (inl b) = absurd (not-both q (found .2 i (below→ b)))
     go (inr a) (inr b) = omega (arith, not-below→ a, not-below→ b)
 
+pub lowest-found : {n : ℕ} (p : ℕ → Bool) (i : ℕ) → i < n → p i ≡ true → some i p ≡ false → lowest n p ≡ i
+lowest-found p i h q none = lowest-at p i h q (none→ p none)
+
 pub lowest-le : {n : ℕ} (p : ℕ → Bool) (i : ℕ) → i < n → p i ≡ true → lowest n p ≤ i
 lowest-le {n} p i h q = go (decide (i below lowest n p))
   where
@@ -295,6 +314,20 @@ count-yes i p h = rw (add-one i) (if-true (suc (count i p)) (count i p) h)
 pub count-no : (i : ℕ) (p : ℕ → Bool) → p i ≡ false → count (i + 1) p ≡ count i p
 unfolding count
 count-no i p h = rw (add-one i) (if-false (suc (count i p)) (count i p) h)
+
+pub count-none : (n : ℕ) (p : ℕ → Bool) → some n p ≡ false → count n p ≡ 0
+unfolding count
+count-none zero p h = refl
+count-none (suc n) p h = if-false _ _ (none→ {n = suc n} p h n (omega arith)) ∙ count-none n p (none-below {i = suc n} n p h (omega arith))
+
+-- a count is at most the bound, and less where 0 does not pass
+pub count-above : (n : ℕ) (p : ℕ → Bool) → p 0 ≡ false → count (suc n) p ≤ n
+unfolding count
+count-above zero p h = let e : count 1 p ≡ 0 = if-false 1 0 h in omega arith
+count-above (suc n) p h =
+    let r : count (suc n) p ≤ n = count-above n p h in
+    ⊎-elim (λ (k : p (suc n) ≡ true). let e : count (suc (suc n)) p ≡ suc (count (suc n) p) = if-true _ _ k in omega arith)
+    (λ (k : p (suc n) ≡ false). let e : count (suc (suc n)) p ≡ count (suc n) p = if-false _ _ k in omega arith) (decide (p (suc n)))
 
 pub some-next : (i : ℕ) (p : ℕ → Bool) → some (i + 1) p ≡ (some i p or p i)
 unfolding some
@@ -328,7 +361,7 @@ pub lowest-left : (n : ℕ) (p q : ℕ → Bool) → lowest n p < lowest n q →
 lowest-left n p q h = go (decide (some n p))
   where
     go : (some n p ≡ true) ⊎ (some n p ≡ false) → lowest n (λ i. p i or q i) ≡ lowest n p
-    go (inr k) = absurd (let e : lowest n p ≡ n = lowest-none p k in let z : lowest n q ≤ n = lowest-bound n q in omega arith)
+    go (inr k) = absurd (let e : lowest n p ≡ n = lowest-none p k in let z : lowest n q ≤ n = lowest-bound {n = n} q in omega arith)
     go (inl k) =
         let r = lowest-is p k in
         lowest-at (λ i. p i or q i) (lowest n p) (r .0) (→or-left _ (r .1))

@@ -7,3 +7,4 @@ pub mod Order
 pub mod Cycle
 pub mod Shows
 pub mod Matrix
+pub mod Steps

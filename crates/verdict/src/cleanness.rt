@@ -1,11 +1,11 @@
 // The clean verdict: whether every judged read is from a committed source that writes the object in no later step.
+use crate::Checked;
+use crate::CleanAnswer;
+use crate::Fault;
 use crate::refusal::admit;
 use crate::walk::clear;
 use crate::walk::seen;
 use crate::walk::writes_within;
-use crate::Checked;
-use crate::CleanAnswer;
-use crate::Fault;
 ghost use mathlib.Core.Path.{_≡_};
 ghost use Prim.Native.Nat.{_≤_, _+_, _*_};
 ghost use lib.ListN.{length};

@@ -34,7 +34,7 @@ same-length c = search needs
 
 returns-2 : tie.Need-returns-2
 unfolding said-refusal work-refusal
-returns-2 c = 
+returns-2 c =
     let e = said-passed _ (sym (c .before .before .before .before .before .before .before .admit .ensures) ∙ c .before .before .before .before .before .enum-told .given .1) in
     answered (cleanness (c .before .before .before .before .before .before .before .before .before .before .args .log .now)) (sym e) refl (c .judge-clean .ensures) (work-left _ (c .before .before .before .before .before .before .before .before .before .before .args .work .now) _ (else-try→ e .0) (c .before .before .before .clear .ensures))
 

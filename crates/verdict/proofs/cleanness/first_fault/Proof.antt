@@ -25,7 +25,7 @@ is-faulty-requires c κs = omega arith
 
 returns : tie.Need-returns Inv-loop μ-loop
 unfolding steps
-returns c = 
+returns c =
     let at = c .before .before .before in
     sym (lowest-at (faulty-read (at .before .before .args .log .now)) (at .loop .i) (omega arith) (sym (c .before .is-faulty .ensures) ∙ c .if1 .taken) (none→ _ (at .loop .inv .2)))
 
@@ -40,7 +40,7 @@ loop-again c = let at = c .before .before .before in (refl, omega arith, none-ne
 
 returns-2 : tie.Need-returns-2 Inv-loop μ-loop
 unfolding steps
-returns-2 c = 
+returns-2 c =
     let e : c .before .loop .i ≡ length (c .before .before .before .args .log .now) / 4 = omega arith in
     e ∙ sym (lowest-none (faulty-read (c .before .before .before .args .log .now)) (rw e at (c .before .loop .inv .2)))
 

@@ -64,7 +64,7 @@ seen-requires-2 c κs = search needs
 
 returns-5 : tie.Need-returns-5
 unfolding committed commits does steps kind tx obj src
-returns-5 c = 
+returns-5 c =
     sym (source-open _ _ (c .before .before .before .before .before .before .before .before .if1 .left) (c .before .before .before .before .before .if2 .left) (c .before .before .before .before .if3 .left)
     (sym (c .before .before .before .seen .ensures) ∙ not-false _ (c .before .before .if4 .left)) (sym (c .before .seen2 .ensures) ∙ not-true _ (c .if5 .taken)))
 
@@ -88,7 +88,7 @@ writes-within-requires c κs = search needs
 
 returns-6 : tie.Need-returns-6
 unfolding committed commits does steps kind tx obj src
-returns-6 c = 
+returns-6 c =
     c .writes-within .ensures ∙ sym (source-later _ _ (c .before .before .before .before .before .before .before .before .before .before .if1 .left) (c .before .before .before .before .before .before .before .if2 .left) (c .before .before .before .before .before .before .if3 .left)
     (sym (c .before .before .before .before .before .seen .ensures) ∙ not-false _ (c .before .before .before .before .if4 .left)) (sym (c .before .before .before .seen2 .ensures) ∙ not-false _ (c .before .before .if5 .left)) ∙ later-from _ _ _ _)
 

@@ -17,7 +17,7 @@ first-fault-requires c κs = search needs
 
 returns : tie.Need-returns
 unfolding said-clean said-fault steps aborted aborts does src
-returns c = 
+returns c =
     let log : List ℕ = c .before .before .before .args .log .now in
     let e : c .before .first-fault .result ≡ lowest (steps log) (faulty-read log) = c .before .first-fault .ensures in
     sym (ap said-clean (no-fault log (rw e at (c .if1 .taken))))
@@ -39,14 +39,14 @@ seen-requires c κs = search needs
 
 returns-2 : tie.Need-returns-2
 unfolding said-clean said-fault steps aborted aborts does src
-returns-2 c = 
+returns-2 c =
     let log : List ℕ = c .before .before .before .before .before .before .args .log .now in
     let e : c .before .before .before .before .first-fault .result ≡ lowest (steps log) (faulty-read log) = c .before .before .before .before .first-fault .ensures in
     sym (ap said-clean (from-aborted log _ e (omega arith) (sym (c .before .seen .ensures) ∙ c .if2 .taken)))
 
 returns-3 : tie.Need-returns-3
 unfolding said-clean said-fault steps aborted aborts does src
-returns-3 c = 
+returns-3 c =
     let log : List ℕ = c .before .before .before .before .before .before .args .log .now in
     let e : c .before .before .before .before .first-fault .result ≡ lowest (steps log) (faulty-read log) = c .before .before .before .before .first-fault .ensures in
     sym (ap said-clean (from-unfinal log _ e (omega arith) (sym (c .before .seen .ensures) ∙ c .if2 .left)))

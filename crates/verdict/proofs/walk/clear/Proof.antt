@@ -28,11 +28,13 @@ loop-less : tie.Need-loop-less Inv-loop μ-loop
 loop-less c = omega arith
 
 loop-again : tie.Need-loop-again Inv-loop μ-loop
-loop-again c = 
+loop-again c =
     let at = c .before in
-    let i = at .loop .i in
-    (add-one-le (c .loop-test .taken), ap (λ (l : List ℕ). set l i 0) (at .loop .inv .1) ∙ fill-more i 0 (at .before .args .work .now) (c .loop-test .taken),
-    length-set (at .loop .work) i 0 ∙ at .loop .inv .2)
+    let i = at .loop .i in (
+      add-one-le (c .loop-test .taken),
+      ap (λ (l : List ℕ). set l i 0) (at .loop .inv .1) ∙ fill-more i 0 (at .before .args .work .now) (c .loop-test .taken),
+      length-set (at .loop .work) i 0 ∙ at .loop .inv .2,
+    )
 
 same-length : tie.Need-same-length Inv-loop μ-loop
 same-length c = c .before .loop .inv .2

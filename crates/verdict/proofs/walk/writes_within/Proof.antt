@@ -54,7 +54,7 @@ shared-slice-read-if3 c = omega arith
 
 returns : tie.Need-returns Inv-loop μ-loop
 unfolding writes kind tx obj
-returns c = 
+returns c =
     let at = c .before .before .before .before .before .before .before in
     sym (→some _ (at .loop .i) (omega arith) (→and (→upto (at .loop .inv .0)) (→and (→and (→is (c .before .before .before .before .if1 .taken)) (→is (c .before .before .if2 .taken))) (→is (c .if3 .taken)))))
 
@@ -66,11 +66,15 @@ loop-less c = omega arith
 
 loop-again : tie.Need-loop-again Inv-loop μ-loop
 unfolding writes kind tx obj
-loop-again c = 
-    let at = c .before .before .before in
-    (omega arith, omega arith, at .loop .inv .2, none-next _ _ (at .loop .inv .3)
-    (and-no-right _ (⊎-elim (λ w. and-no-right _ (→isnt (w .4 .left)))
-    (⊎-elim (λ w. and-no-left _ (and-no-right _ (→isnt (w .2 .left)))) (λ w. and-no-left _ (and-no-left _ (→isnt (w .left))))) (c .if1 .came))))
+loop-again c =
+    let at = c .before .before .before in (
+      omega arith,
+      omega arith,
+      at .loop .inv .2,
+      none-next _ _ (at .loop .inv .3)
+          (and-no-right _ (⊎-elim (λ w. and-no-right _ (→isnt (w .4 .left)))
+          (⊎-elim (λ w. and-no-left _ (and-no-right _ (→isnt (w .2 .left)))) (λ w. and-no-left _ (and-no-left _ (→isnt (w .left))))) (c .if1 .came))),
+    )
 
 returns-2 : tie.Need-returns-2 Inv-loop μ-loop
 returns-2 c = let e : c .before .loop .i ≡ c .before .before .args .to = omega arith in sym (rw e at (c .before .loop .inv .3))

@@ -1,0 +1,50 @@
+use Prim.Native.Nat.{_+_, _≤_, _-_}
+use native.Mathlib.Omega.{arith}
+use lib.ListN.{getD-replicate}
+use Rattle.graph.specs.Matrix.{joined}
+use Rattle.graph.specs.Steps.{entry, Near}
+use Rattle.graph.proofs.Marks.{ends-to}
+use Rattle.graph.proofs.Far.{near-one, near-more, near-at}
+use Rattle.graph.proofs.cycle.distances.Statement.{statement}
+use Rattle.graph.proofs.cycle.distances.Tie as tie
+
+abbrev Inv-loop : tie.InvT-loop
+Inv-loop m part s dist₀ d₀ dist d = (d ≤ 127) × Near (joined 128 m part) s (d + 1) (entry dist)
+
+abbrev μ-loop : tie.MeasureT-loop
+μ-loop m part s dist₀ d₀ dist d = 127 - d
+
+spread-requires : tie.Need-spread-requires Inv-loop μ-loop
+spread-requires c κs = omega arith
+
+loop-holds : tie.Need-loop-holds Inv-loop μ-loop
+loop-holds c = (omega arith, near-one _ (ends-to 128 _ _) _ (λ t a b. getD-replicate 128 (t - 1) 128 0 (omega arith)) (c .spread .ensures))
+
+layer-requires : tie.Need-layer-requires Inv-loop μ-loop
+layer-requires c κs = omega arith
+
+add-d : tie.Need-add-d Inv-loop μ-loop
+add-d c = omega arith
+
+loop-less : tie.Need-loop-less Inv-loop μ-loop
+loop-less c = omega arith
+
+loop-again : tie.Need-loop-again Inv-loop μ-loop
+loop-again c = (omega arith, near-more _ (ends-to 128 _ _) _ _ (omega arith) (c .before .before .loop .inv .1) (c .layer .ensures))
+
+returns : tie.Need-returns Inv-loop μ-loop
+returns c = near-at (c .before .loop .inv .1) 128 (omega arith)
+
+pub distances-spec : {M : Type 1} → statement M
+distances-spec =
+    tie.close
+    (tie.spec
+    Inv-loop
+    μ-loop
+    spread-requires
+    loop-holds
+    layer-requires
+    add-d
+    loop-less
+    loop-again
+    returns)

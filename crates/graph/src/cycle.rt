@@ -1,0 +1,137 @@
+// The first shortest cycle. For each vertex s the distances back to s are found layer by layer, through vertices above s. The shortest
+// closed walk is a cycle, and the lowest one is traced along falling distances. The distance 128 stands for none.
+ghost use mathlib.Core.Path.{_≡_};
+ghost use mathlib.Core.Bool.{true};
+ghost use mathlib.Core.List.{List, _∷_};
+ghost use Prim.Native.Nat.{ℕ, _+_, _≤_, _<_};
+ghost use lib.ListN.{length};
+ghost use Rattle.graph.specs.Tests.{_is_, _below_, _and_, some, lowest};
+ghost use Rattle.graph.specs.Cycle.{is-cycle};
+ghost use Rattle.graph.specs.Matrix.{joined};
+ghost use Rattle.graph.specs.Steps.{pick, far, laid, entry, Marked, Near, Least, Cycled};
+use super::left::joins;
+
+// A shortest closed walk: how many vertices it has besides its lowest, and that one.
+struct Ring {
+    len: usize,
+    start: usize,
+}
+
+// dist, with mark for each vertex that has 128 there and an edge to v.
+fn spread(m: &[u8], part: &[u8; 128], dist: [usize; 128], v: usize, mark: usize) -> [usize; 128]
+    requires { ⌜ (length (now m) ≡ 16384) × (1 ≤ v) × (v ≤ 128) × (mark < 128) ⌝ }
+    ensures { λ r. ⌜ Marked (λ t. joined 128 (now (m .entry)) (now (part .entry)) t v) mark (entry dist) (entry r) ⌝ }
+{
+    let mut next = dist;
+    let mut u: usize = 1;
+    while u <= 128 {
+        if next[u - 1] == 128 {
+            if joins(m, part, u, v) {
+                next[u - 1] = mark;
+            }
+        }
+        u += 1;
+    }
+    next
+}
+
+// dist, with d + 1 for each vertex that has 128 there and an edge to one above s that has d.
+fn layer(m: &[u8], part: &[u8; 128], dist: [usize; 128], s: usize, d: usize) -> [usize; 128]
+    requires { ⌜ (length (now m) ≡ 16384) × (d + 1 < 128) ⌝ }
+    ensures { λ r. ⌜ Marked (λ t. some 129 (λ u. s below u and entry dist u is d and joined 128 (now (m .entry)) (now (part .entry)) t u)) (d + 1) (entry dist) (entry r) ⌝ }
+{
+    let mut next = dist;
+    let mut u: usize = 1;
+    while u <= 128 {
+        if s < u {
+            if next[u - 1] == d {
+                let more = spread(m, part, next, u, d + 1);
+                next = more;
+            }
+        }
+        u += 1;
+    }
+    next
+}
+
+// How far each vertex is from s.
+fn distances(m: &[u8], part: &[u8; 128], s: usize) -> [usize; 128]
+    requires { ⌜ (length (now m) ≡ 16384) × (1 ≤ s) × (s ≤ 128) ⌝ }
+    ensures { λ r. ⌜ Near (joined 128 (now (m .entry)) (now (part .entry))) s 128 (entry r) ⌝ }
+{
+    let mut dist = spread(m, part, [128usize; 128], s, 0);
+    let mut d: usize = 0;
+    while d < 127 {
+        let more = layer(m, part, dist, s, d);
+        dist = more;
+        d += 1;
+    }
+    dist
+}
+
+// The shortest closed walk, and of these the one whose lowest vertex is lowest.
+fn best(m: &[u8], part: &[u8; 128]) -> Ring
+    requires { ⌜ length (now m) ≡ 16384 ⌝ }
+    ensures { λ r. ⌜ Least (joined 128 (now (m .entry)) (now (part .entry))) 129 (r .len) (r .start) ⌝ }
+{
+    let mut len: usize = 128;
+    let mut start: usize = 0;
+    let mut s: usize = 1;
+    while s <= 128 {
+        let dist = distances(m, part, s);
+        let k = dist[s - 1];
+        if k < len {
+            len = k;
+            start = s;
+        }
+        s += 1;
+    }
+    Ring { len, start }
+}
+
+// The lowest vertex above s to which an edge leads from a and that has k in dist, or 129 where there is none.
+fn nearer(m: &[u8], part: &[u8; 128], dist: &[usize; 128], s: usize, a: usize, k: usize) -> usize
+    requires { ⌜ (length (now m) ≡ 16384) × (s ≤ 128) × (1 ≤ a) × (a ≤ 128) ⌝ }
+    ensures { λ r. ⌜ r ≡ lowest 129 (λ u. s below u and joined 128 (now (m .entry)) (now (part .entry)) a u and entry (now (dist .entry)) u is k) ⌝ }
+{
+    let mut u = s + 1;
+    while u <= 128 {
+        if dist[u - 1] == k {
+            if joins(m, part, a, u) {
+                return u;
+            }
+        }
+        u += 1;
+    }
+    u
+}
+
+// Lays down, from place 1 on, the lowest closed walk from s with len vertices besides s.
+fn trace(out: &mut [u16], m: &[u8], part: &[u8; 128], dist: &[usize; 128], s: usize, len: usize)
+    requires { ⌜ (length (now out) ≡ 128) × (length (now m) ≡ 16384) × (1 ≤ s) × (s ≤ 128) × (len < 128)
+        × Near (joined 128 (now m) (now part)) s 128 (entry (now dist)) × (far (joined 128 (now m) (now part)) s 128 s ≡ len) ⌝ }
+    ensures { λ _. ⌜ now (out .exit) ≡ laid 1 (pick (joined 128 (now (m .entry)) (now (part .entry))) s len s) (now (out .entry)) ⌝ }
+{
+    let mut a = s;
+    let mut k = len;
+    while 0 < k {
+        k -= 1;
+        let v = nearer(m, part, dist, s, a, k);
+        out[len - k] = v as u16;
+        a = v;
+    }
+}
+
+// Lays down the first shortest cycle, where there is any. How many members it has.
+pub fn cycle(out: &mut [u16], m: &[u8], part: &[u8; 128]) -> usize
+    requires { ⌜ (length (now out) ≡ 128) × (length (now m) ≡ 16384) × ((c : List ℕ) × (is-cycle (joined 128 (now m) (now part)) c ≡ true)) ⌝ }
+    ensures { λ r. ⌜ Cycled (now (m .entry)) (now (part .entry)) (now (out .entry)) r (now (out .exit)) ⌝ }
+{
+    let ring = best(m, part);
+    let len = ring.len;
+    let start = ring.start;
+    let dist = distances(m, part, start);
+    out[0] = start as u16;
+    trace(out, m, part, &dist, start, len);
+    len + 1
+}

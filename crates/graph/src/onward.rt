@@ -1,0 +1,52 @@
+// The first order that comes later than a given one.
+ghost use mathlib.Core.Path.{_≡_};
+ghost use mathlib.Core.Bool.{true};
+ghost use mathlib.Core.List.{List, _∷_};
+ghost use Prim.Native.Nat.{ℕ, _+_, _≤_};
+ghost use lib.ListN.{length, drop};
+ghost use Rattle.graph.specs.Tests.{count};
+ghost use Rattle.graph.specs.First.{Never, later};
+ghost use Rattle.graph.specs.Matrix.{vertices, takes-part, matrix-order};
+ghost use Rattle.graph.specs.Steps.{unmarked, Followed};
+use super::left::lowest_beginning;
+use super::order::place;
+
+// Lays down, from place i on, the lowest vertex above a that may come first, and then the first order of the others. How many entries then
+// stand, or 0 where there is no such vertex.
+fn higher(out: &mut [u16], m: &[u8], left: [u8; 128], i: usize, a: usize) -> usize
+    requires { ⌜ (length (now out) ≡ 128) × (length (now m) ≡ 16384) × (a ≤ 128) × (i + count 129 (takes-part 128 left) ≤ 128) ⌝ }
+    ensures { λ r. ⌜ ((w : List ℕ) → matrix-order vertices (now (m .entry)) left (a ∷ w) ≡ true
+        → Never (later (matrix-order vertices (now (m .entry)) (unmarked a left)) w)
+        → Followed (now (m .entry)) left (a ∷ w) i (now (out .entry)) r (now (out .exit))) ⌝ }
+{
+    let b = lowest_beginning(m, &left, a + 1);
+    if 128 < b {
+        return 0;
+    }
+    let mut rest = left;
+    rest[b - 1] = 0;
+    out[i] = b as u16;
+    let p = place(out, m, rest, i + 1);
+    p.count
+}
+
+// Lays down, from place i on, the first order of what is left that comes later than the given entries from there on. How many entries then
+// stand, or 0 where no order is later.
+pub fn follow(out: &mut [u16], m: &[u8], left: [u8; 128], given: &[u16], i: usize) -> usize
+    requires { ⌜ (length (now out) ≡ 128) × (length (now m) ≡ 16384) × (length (now given) ≤ 128) × (i ≤ length (now given))
+        × (matrix-order vertices (now m) left (drop i (now given)) ≡ true) ⌝ }
+    ensures { λ r. ⌜ Followed (now (m .entry)) left (drop i (now (given .entry))) i (now (out .entry)) r (now (out .exit)) ⌝ }
+{
+    if given.len() <= i {
+        return 0;
+    }
+    let a = given[i] as usize;
+    let mut behind = left;
+    behind[a - 1] = 0;
+    let n = follow(out, m, behind, given, i + 1);
+    if 0 < n {
+        out[i] = a as u16;
+        return n;
+    }
+    higher(out, m, left, i, a)
+}

@@ -1,0 +1,100 @@
+// The graphs that are shown: numbers 0 to 4 by a rule for their edges, and higher numbers drawn.
+ghost use Prim.Native.Nat.{_≤_, _<_};
+
+// Marks, and the state that the next draw starts from.
+pub struct Marks {
+    pub part: [u8; 128],
+    pub state: u64,
+}
+
+// The next state of the draws.
+fn draw(state: u64) -> u64 {
+    (state % 2147483648 * 1103515245 + 12345) % 2147483648
+}
+
+// Whether a state draws 0 of k.
+fn hit(state: u64, k: u64) -> bool
+    requires { ⌜ 0 < k ⌝ }
+{
+    state / 65536 % k == 0
+}
+
+// Whether an edge of the two rings leads from a to b.
+fn in_rings(a: usize, b: usize) -> bool {
+    match a {
+        3 => b == 70,
+        70 => b == 9,
+        9 => b == 20,
+        20 => b == 3,
+        2 => b == 90,
+        90 => b == 60,
+        60 => b == 80,
+        80 => b == 2,
+        _ => false,
+    }
+}
+
+// Whether an edge leads from a to b in a graph made by a rule.
+fn ruled(number: u64, a: usize, b: usize) -> bool
+    requires { ⌜ (1 ≤ a) × (1 ≤ b) ⌝ }
+{
+    match number {
+        0 => false,
+        1 => a - 1 == b,
+        2 => b < a,
+        3 => b - 1 == a || a == 128 && b == 1,
+        _ => b - 1 == a && 100 <= a || in_rings(a, b),
+    }
+}
+
+// The byte for an edge from a to b.
+fn byte(number: u64, state: u64, a: usize, b: usize) -> u8
+    requires { ⌜ (1 ≤ a) × (1 ≤ b) ⌝ }
+{
+    if number < 5 {
+        return ruled(number, a, b) as u8;
+    }
+    hit(state, 5 + (number - 4) % 9) as u8
+}
+
+// Which vertices take part: all, or in a drawn graph each by a draw.
+pub fn parts(number: u64) -> Marks {
+    let mut part = [1u8; 128];
+    let mut state = number;
+    if 4 < number {
+        state = number - 4;
+    }
+    let mut v = 0;
+    while v < 128 {
+        state = draw(state);
+        if 4 < number {
+            part[v] = hit(state, 12) as u8;
+        }
+        v += 1;
+    }
+    Marks { part, state }
+}
+
+// Writes row a of the matrix, and answers the state after it.
+fn row(m: &mut [u8; 16384], number: u64, start: u64, a: usize) -> u64
+    requires { ⌜ (1 ≤ a) × (a ≤ 128) ⌝ }
+{
+    let mut state = start;
+    let mut b = 1;
+    while b <= 128 {
+        state = draw(state);
+        m[(a - 1) * 128 + (b - 1)] = byte(number, state, a, b);
+        b += 1;
+    }
+    state
+}
+
+// Writes the matrix.
+pub fn edges(m: &mut [u8; 16384], number: u64, start: u64) {
+    let mut state = start;
+    let mut a = 1;
+    while a <= 128 {
+        state = row(m, number, state, a);
+        a += 1;
+    }
+}
