@@ -36,3 +36,12 @@ marked-yes m c h k = sym (m .mark c h) ∙ →fails (→isnt k)
 
 pub marked-no : {n : ℕ} {p : ℕ → Bool} {marks : List ℕ} → Marked n p marks → (c : ℕ) → c < n → getD marks c 0 ≡ 0 → p c ≡ false
 marked-no m c h k = sym (m .mark c h) ∙ →not-fails (→is k)
+
+-- a table filled from its first entry on: one entry more
+pub table-more : (f : ℕ → ℕ) (table : List ℕ) (t v : ℕ) → t < length table → ((u : ℕ) → u < t → getD table u 0 ≡ f u) → v ≡ f t
+    → (u : ℕ) → u < t + 1 → getD (set table t v) u 0 ≡ f u
+table-more f table t v h g e u k = go (decide (u is t))
+  where
+    go : ((u is t) ≡ true) ⊎ ((u is t) ≡ false) → getD (set table t v) u 0 ≡ f u
+    go (inl q) = let z : u ≡ t = is→ q in rw (z, getD-set-same table t v 0 h) e
+    go (inr q) = let n : u ≡ t → ⊥ = isnt→ q in rw (getD-set-other table t u v 0 n) (g u (omega arith))

@@ -1,50 +1,52 @@
+use mathlib.Core.Path.{_≡_, _∙_}
+use Prim.Native.Nat.{ℕ, _-_, _≤_, _<_}
+use native.Mathlib.Omega.{arith}
+use borrow.Author.Needs.{needs}
+use lib.ListN.{length, getD, length-set}
+use Rattle.graph.specs.Tests.{lowest}
+use Rattle.verdict.specs.Log.{steps}
+use Rattle.verdict.specs.Walk.{does}
+use Rattle.graph.proofs.Ring.{at}
+use Rattle.verdict.proofs.Marks.{table-more}
 use Rattle.verdict.proofs.walk.first_steps.Statement.{statement}
 use Rattle.verdict.proofs.walk.first_steps.Tie as tie
-use Rattle.verdict.proofs.walk.first_steps.Reads as reads
-use Rattle.verdict.proofs.walk.first_steps.Lts as lts
-use Rattle.verdict.proofs.walk.first_step.Reads as first-step-reads
 
 abbrev Inv-loop : tie.InvT-loop
-Inv-loop log k table₀ t₀ table t = ?
+Inv-loop log k table₀ t₀ table t = (t ≤ 129) × (length table ≡ 129) × ((u : ℕ) → u < t → getD table u 0 ≡ lowest (steps log) (does log k u))
 
 abbrev μ-loop : tie.MeasureT-loop
-μ-loop log k table₀ t₀ table t = ?
+μ-loop log k table₀ t₀ table t = 129 - t
 
--- src/walk.rt:107:5
 loop-holds : tie.Need-loop-holds Inv-loop μ-loop
-loop-holds c = ?
+loop-holds c = (omega arith, search needs, λ u h. absurd (omega (arith, h)))
 
--- src/walk.rt:108:29
 first-step-requires : tie.Need-first-step-requires Inv-loop μ-loop
-first-step-requires c κs = ?
+first-step-requires c κs = omega arith
 
--- src/walk.rt:108:15
 cast-table : tie.Need-cast-table Inv-loop μ-loop
-cast-table c = ?
+cast-table c = omega arith
 
--- src/walk.rt:108:9
 mul-table : tie.Need-mul-table Inv-loop μ-loop
-mul-table c = ?
+mul-table c = omega arith
 
--- src/walk.rt:108:9
 array-write-table : tie.Need-array-write-table Inv-loop μ-loop
-array-write-table c = ?
+array-write-table c = omega arith
 
--- src/walk.rt:109:9
 add-t : tie.Need-add-t Inv-loop μ-loop
-add-t c = ?
+add-t c = omega arith
 
--- src/walk.rt:107:5
 loop-less : tie.Need-loop-less Inv-loop μ-loop
-loop-less c = ?
+loop-less c = omega arith
 
--- src/walk.rt:107:5
 loop-again : tie.Need-loop-again Inv-loop μ-loop
-loop-again c = ?
+loop-again c = 
+    let at = c .before .before in
+    let a = at .before .before .args in
+    (omega arith, length-set (at .loop .table) (at .loop .t) (c .first-step .result) ∙ at .loop .inv .1,
+    table-more (λ u. lowest (steps (a .log .now)) (does (a .log .now) (a .k) u)) (at .loop .table) (at .loop .t) (c .first-step .result) (omega (arith, at .loop .inv .1)) (at .loop .inv .2) (c .first-step .ensures))
 
--- src/walk.rt:102:1
 returns : tie.Need-returns Inv-loop μ-loop
-returns c = ?
+returns c = record { entry = λ t h. c .before .loop .inv .2 t (omega arith) }
 
 pub first-steps-spec : {M : Type 1} → statement M
 first-steps-spec =
