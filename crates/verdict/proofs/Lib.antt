@@ -2,10 +2,12 @@
 pub mod Fill
 pub mod Refused
 pub mod Steps
+pub mod Judged
 pub mod Faults
 pub mod WellFormed
 pub mod Frame
 pub mod Marks
+pub mod SnapshotLaws
 pub mod Versions
 pub mod Finds
 pub mod Center

@@ -7,7 +7,7 @@ use Prim.Native.Nat.{ℕ, suc, _+_, _≤_, _<_}
 use native.Mathlib.Omega.{arith}
 use lib.ListN.{length, getD, set, replicate, getD-replicate}
 use lib.Seq.{getD-set-same, getD-set-other}
-use Rattle.graph.specs.Tests.{_is_, fails, some}
+use Rattle.graph.specs.Tests.{_is_, _and_, fails, some}
 use Rattle.graph.proofs.Truth.{decide, →fails, →not-fails, →is, →isnt, is→, isnt→, →some, some-skip}
 use Rattle.verdict.specs.Walk.{Marked}
 
@@ -45,3 +45,7 @@ table-more f table t v h g e u k = go (decide (u is t))
     go : ((u is t) ≡ true) ⊎ ((u is t) ≡ false) → getD (set table t v) u 0 ≡ f u
     go (inl q) = let z : u ≡ t = is→ q in rw (z, getD-set-same table t v 0 h) e
     go (inr q) = let n : u ≡ t → ⊥ = isnt→ q in rw (getD-set-other table t u v 0 n) (g u (omega arith))
+
+-- where no number has both of two marks, none passes both tests
+pub marked-both : {n : ℕ} {p q : ℕ → Bool} {v w : List ℕ} → Marked n p v → Marked n q w → (x : ℕ) → x < n → (fails (getD v x 0 is 0) and fails (getD w x 0 is 0)) ≡ (p x and q x)
+marked-both m k x h = rw (m .mark x h, k .mark x h) refl

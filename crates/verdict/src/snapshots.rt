@@ -1,4 +1,6 @@
 // The snapshot verdict: what each judged read should have found, and which overlapping writers clash.
+use crate::Checked;
+use crate::SnapshotAnswer;
 use crate::limits::Object;
 use crate::limits::Transaction;
 use crate::refusal::admit;
@@ -8,8 +10,6 @@ use crate::walk::first_steps;
 use crate::walk::seen;
 use crate::walk::writers;
 use crate::walk::written;
-use crate::Checked;
-use crate::SnapshotAnswer;
 ghost use mathlib.Core.Path.{_≡_};
 ghost use Prim.Native.Nat.{_≤_, _+_, _*_};
 ghost use lib.ListN.{length, getD};

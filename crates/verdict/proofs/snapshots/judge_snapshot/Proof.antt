@@ -1,29 +1,28 @@
+use mathlib.Core.Path.{sym, ap}
+use borrow.Author.Needs.{needs}
+use Rattle.verdict.specs.Log.{steps}
+use Rattle.verdict.specs.Said.{said-snapshot}
+use Rattle.verdict.proofs.SnapshotLaws.{read-first, write-first, all-right}
 use Rattle.verdict.proofs.snapshots.judge_snapshot.Statement.{statement}
 use Rattle.verdict.proofs.snapshots.judge_snapshot.Tie as tie
-use Rattle.verdict.proofs.snapshots.judge_snapshot.Reads as reads
-use Rattle.verdict.proofs.snapshots.judge_snapshot.Lts as lts
-use Rattle.verdict.proofs.snapshots.first_clash.Reads as first-clash-reads
-use Rattle.verdict.proofs.snapshots.first_wrong.Reads as first-wrong-reads
 
--- src/snapshots.rt:171:9
 first-wrong-requires : tie.Need-first-wrong-requires
-first-wrong-requires c κs = ?
+first-wrong-requires c κs = search needs
 
--- src/snapshots.rt:172:9
 first-clash-requires : tie.Need-first-clash-requires
-first-clash-requires c κs = ?
+first-clash-requires c κs = search needs
 
--- src/snapshots.rt:176:9
 returns : tie.Need-returns
-returns c = ?
+unfolding said-snapshot steps
+returns c = sym (ap said-snapshot (read-first _ _ _ _ (c .before .before .first-wrong .ensures) (c .before .first-clash .ensures) (c .if1 .taken)))
 
--- src/snapshots.rt:179:9
 returns-2 : tie.Need-returns-2
-returns-2 c = ?
+unfolding said-snapshot steps
+returns-2 c = sym (ap said-snapshot (write-first _ _ _ _ (c .before .before .before .first-wrong .ensures) (c .before .before .first-clash .ensures) (c .before .if1 .left) (c .if2 .taken)))
 
--- src/snapshots.rt:166:1
 returns-3 : tie.Need-returns-3
-returns-3 c = ?
+unfolding said-snapshot steps
+returns-3 c = sym (ap said-snapshot (all-right _ _ _ _ (c .before .before .before .first-wrong .ensures) (c .before .before .first-clash .ensures) (c .before .if1 .left) (c .if2 .left)))
 
 pub judge-snapshot-spec : {M : Type 1} → statement M
 judge-snapshot-spec =

@@ -1,42 +1,45 @@
+use mathlib.Core.Path.{refl, sym, _∙_}
+use native.Mathlib.Omega.{arith}
+use borrow.Author.Needs.{needs}
+use Rattle.verdict.specs.Limits.{transactions}
+use Rattle.verdict.specs.Refusal.{work-refusal}
+use Rattle.verdict.specs.Snapshot.{snapshot-verdict}
+use Rattle.verdict.specs.Said.{said-refusal}
+use Rattle.verdict.specs.Call.{turned-away, answered}
+use Rattle.verdict.proofs.WellFormed.{else-try→}
+use Rattle.verdict.proofs.Frame.{work-left}
+use Rattle.verdict.proofs.Steps.{said-refused, said-passed}
 use Rattle.verdict.proofs.snapshots.snapshot.Statement.{statement}
 use Rattle.verdict.proofs.snapshots.snapshot.Tie as tie
-use Rattle.verdict.proofs.snapshots.snapshot.Reads as reads
-use Rattle.verdict.proofs.snapshots.snapshot.Lts as lts
-use Rattle.verdict.proofs.refusal.admit.Reads as admit-reads
-use Rattle.verdict.proofs.snapshots.judge_snapshot.Reads as judge-snapshot-reads
-use Rattle.verdict.proofs.walk.clear.Reads as clear-reads
 
--- src/snapshots.rt:188:9
 admit-requires : tie.Need-admit-requires
-admit-requires c κs = ?
+admit-requires c κs = omega arith
 
--- src/snapshots.rt:190:26
 enum-known-admitted : tie.Need-enum-known-admitted
-enum-known-admitted c = ?
+enum-known-admitted c = omega arith
 
--- src/snapshots.rt:192:19
 enum-told : tie.Need-enum-told
-enum-told c = ?
+enum-told c = omega arith
 
--- src/snapshots.rt:192:13
 clear-requires : tie.Need-clear-requires
-clear-requires c κs = ?
+clear-requires c κs = omega arith
 
--- src/snapshots.rt:193:13
 judge-snapshot-requires : tie.Need-judge-snapshot-requires
-judge-snapshot-requires c κs = ?
+unfolding said-refusal work-refusal
+judge-snapshot-requires c κs = else-try→ (said-passed _ (sym (c .before .before .before .before .before .before .admit .ensures) ∙ c .before .before .before .before .enum-told .given .1)) .1
 
--- src/snapshots.rt:185:1
 returns : tie.Need-returns
-returns c = ?
+unfolding said-refusal work-refusal
+returns c = turned-away _ _ (sym (said-refused _ (sym (c .before .before .before .admit .ensures) ∙ c .before .admitted .given .1))) refl refl
 
--- src/snapshots.rt:185:1
 same-length : tie.Need-same-length
-same-length c = ?
+same-length c = search needs
 
--- src/snapshots.rt:185:1
 returns-2 : tie.Need-returns-2
-returns-2 c = ?
+unfolding said-refusal work-refusal
+returns-2 c =
+    let e = said-passed _ (sym (c .before .before .before .before .before .before .before .admit .ensures) ∙ c .before .before .before .before .before .enum-told .given .1) in
+    answered (snapshot-verdict transactions (c .before .before .before .before .before .before .before .before .before .before .args .log .now)) (sym e) refl (c .judge-snapshot .ensures) (work-left _ (c .before .before .before .before .before .before .before .before .before .before .args .work .now) _ (else-try→ e .0) (c .before .before .before .clear .ensures))
 
 pub snapshot-spec : {M : Type 1} → statement M
 snapshot-spec =
