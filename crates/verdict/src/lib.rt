@@ -2,6 +2,7 @@
 mod cleanness;
 mod limits;
 mod refusal;
+mod search;
 mod snapshots;
 mod walk;
 

@@ -19,6 +19,9 @@ impl Transaction {
     // How many entries a table has that has one for each transaction and one for writer 0.
     pub const TABLE: usize = Transaction::LIMIT as usize + 1;
 
+    // How many entries a table has that has one for each of these and each object.
+    pub const PAIRS: usize = Transaction::TABLE * Object::TABLE;
+
     // The transaction of this number, which is 1 to the limit.
     pub fn of(number: u16) -> MadeTransaction
         ensures { λ r. ⌜ r ≡ make-transaction number ⌝ }
