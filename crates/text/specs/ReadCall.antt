@@ -1,0 +1,46 @@
+-- What a call of `read` answers, and what it leaves in the lent step buffer.
+use mathlib.Core.Path.{_≡_}
+use mathlib.Core.List.{List, [], _∷_}
+use Prim.Native.Nat.{ℕ, _*_}
+use lib.ListN.{length}
+use Rattle.graph.specs.Tests.{_is_, _below_, fails}
+use Rattle.graph.specs.Lists.{entries}
+use Rattle.verdict.specs.Limits.{most-steps}
+use Rattle.verdict.specs.Log.{steps}
+use Rattle.verdict.specs.Refusal.{Refusal, _at_when_, _else-try_}
+use Rattle.verdict.specs.Call.{Call}
+use Rattle.text.specs.Reading.{Reading, Says}
+use Rattle.text.specs.declared.ReadAnswer.{ReadAnswer}
+use Rattle.text.specs.declared.ReadAnswer.the-variants as read-answer
+
+-- a text has at most 33,803 bytes, and the step buffer four numbers for each step that a log may have
+abbrev pub most-bytes : ℕ
+most-bytes = 33803
+
+abbrev pub step-entries : ℕ
+step-entries = 4 * most-steps
+
+-- 12: the step buffer has a wrong length
+unfoldable pub buffer-refusal : List ℕ → Refusal
+buffer-refusal buffer = 12 at 0 when fails (length buffer is step-entries)
+
+-- 15: the text is too long
+unfoldable pub length-refusal : List ℕ → Refusal
+length-refusal text = 15 at 0 when most-bytes below length text
+
+-- the first that applies: 12, 15, and then what the lines give
+pub record ReadRefusal (text buffer : List ℕ) (given : Refusal) : Type 0 where
+  pub by-line : Refusal
+  pub read : Reading text by-line
+  pub first : given ≡ (buffer-refusal buffer else-try length-refusal text else-try by-line)
+
+-- an accepted text: the number of steps is answered, and the buffer holds the steps and then zeros
+unfoldable pub said-steps : List ℕ → ReadAnswer
+said-steps log = read-answer.Steps (steps log)
+
+unfoldable pub leaves-steps : List ℕ → List (List ℕ)
+leaves-steps log = entries step-entries log ∷ []
+
+abbrev pub ReadCall : (text buffer : List ℕ) → ReadAnswer → (buffer′ : List ℕ) → Type 0
+ReadCall text buffer r buffer′ =
+    Call (ReadRefusal text buffer) read-answer.Refused (Says text) said-steps leaves-steps (buffer ∷ []) r (buffer′ ∷ [])
