@@ -1,3 +1,5 @@
 -- Laws of the text form, and the theorems over it.
 pub mod Spelling
+pub mod Fronts
+pub mod Items
 pub mod Samples
