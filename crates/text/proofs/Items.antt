@@ -2,9 +2,10 @@
 use mathlib.Core.Path.{_≡_, refl, sym, ap, _∙_}
 use mathlib.Core.Bool.{Bool, true, false}
 use mathlib.Core.List.{List, [], _∷_, _++_, append-assoc}
-use Prim.Native.Nat.{ℕ, _+_, _≤_}
-use lib.ListN.{length, drop}
-use lib.Seq.{drop-drop, drop-append-seam}
+use Prim.Native.Nat.{ℕ, _+_, _-_, _≤_}
+use native.Mathlib.Omega.{arith}
+use lib.ListN.{length, drop, length-append, length-drop}
+use lib.Seq.{drop-drop}
 use Rattle.graph.proofs.Truth.{not-both}
 use Rattle.text.specs.Decimal.{decimal}
 use Rattle.text.specs.Line.{item, sayable}
@@ -27,6 +28,14 @@ module _ (text : List ℕ) (at : ℕ) (key : List ℕ) where
   -- the text behind a word that stands there
   pub stands-there : starts key (drop at text) ≡ true → drop at text ≡ key ++ drop (at + length key) text
   stands-there h = starts→ key (drop at text) h ∙ ap (λ (u : List ℕ). key ++ u) (drop-drop (length key) at text)
+
+  pub stands-fits : at ≤ length text → starts key (drop at text) ≡ true → at + length key ≤ length text
+  stands-fits k h =
+      let n = at + length key in
+      let e : length text - at ≡ length key + (length text - n) =
+          sym (length-drop at text) ∙ ap length (stands-there h) ∙ length-append key (drop n text) ∙ ap (λ (m : ℕ). length key + m) (length-drop n text)
+      in
+      omega arith
 
   pub no-key : (value : ℕ → List ℕ) (behind : ℕ) → starts key (drop at text) ≡ false
       → (n : ℕ) (rest : List ℕ) → drop at text ≡ item key (value n) behind ++ rest → ⊥

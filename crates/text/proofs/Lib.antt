@@ -2,4 +2,6 @@
 pub mod Spelling
 pub mod Fronts
 pub mod Items
+pub mod Words
+pub mod Forms
 pub mod Samples

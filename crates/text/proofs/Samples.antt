@@ -6,7 +6,7 @@ use Rattle.graph.specs.Tests.{_is_, _below_, if_then_else_}
 use Rattle.verdict.specs.Log.{steps, kind, tx, obj, src}
 use Rattle.text.specs.Bytes.{bytes}
 use Rattle.text.specs.Decimal.{digit, digits, decimal}
-use Rattle.text.specs.Line.{word, item, header, line}
+use Rattle.text.specs.Line.{word, item, header, op, line}
 use Rattle.text.specs.Text.{lines, text-of}
 
 -- the log that 01 prints
@@ -25,7 +25,7 @@ pub printed-text : text-of printed ≡
     ++ bytes "op=write tx=2 obj=1 from=0\n"
     ++ bytes "op=commit tx=1 obj=0 from=0\n"
     ++ bytes "op=commit tx=2 obj=0 from=0\n"
-unfolding printed text-of lines header line item word decimal digits digit bytes steps kind tx obj src _is_ _below_ if_then_else_
+unfolding printed text-of lines header line op item word decimal digits digit bytes steps kind tx obj src _is_ _below_ if_then_else_
 printed-text = refl
 
 pub largest-decimal : decimal 65535 ≡ bytes "65535"

@@ -27,10 +27,14 @@ item key value behind = key ++ value ++ behind ∷ []
 unfoldable pub header : ℕ → List ℕ
 header n = item (bytes "steps=") (decimal n) line-end
 
+-- the front of a step's line, by its kind
+unfoldable pub op : ℕ → List ℕ
+op k = item (bytes "op=") (word k) blank
+
 -- the line of a step: its kind, transaction, object and source
 unfoldable pub line : ℕ → ℕ → ℕ → ℕ → List ℕ
 line k t x s =
-    item (bytes "op=") (word k) blank
+    op k
     ++ item (bytes "tx=") (decimal t) blank
     ++ item (bytes "obj=") (decimal x) blank
     ++ item (bytes "from=") (decimal s) line-end

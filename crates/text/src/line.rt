@@ -1,4 +1,13 @@
-// Lines of a text.
+// The lines of steps in a text.
+ghost use mathlib.Core.Path.{_≡_};
+ghost use Prim.Native.Nat.{ℕ, _*_, _≤_};
+ghost use lib.ListN.{length};
+ghost use Rattle.text.specs.Line.{op, has-word};
+ghost use Rattle.text.specs.Finds.{Finds, FindsLine, Passes};
+use crate::number::Number;
+use crate::number::item_at;
+use crate::number::stands;
+
 // What stands at a place: a line's kind, transaction, object and source, and the place behind it; or no line in form.
 pub enum Line {
     At(u16, u16, u16, u16, usize),
@@ -9,4 +18,47 @@ pub enum Line {
 pub enum Lines {
     To(usize),
     Bad(usize),
+}
+
+// The kind at this place, by its word, with the blank behind it.
+fn kind_at(text: &[u8], at: usize) -> Number
+    requires { ⌜ at ≤ length (now text) ⌝ }
+    ensures { λ r. ⌜ Finds op has-word (now (text .entry)) at r ⌝ }
+{
+    if stands(text, at, b"op=begin ") {
+        return Number::At(1, at + 9);
+    }
+    if stands(text, at, b"op=read ") {
+        return Number::At(2, at + 8);
+    }
+    if stands(text, at, b"op=write ") {
+        return Number::At(3, at + 9);
+    }
+    if stands(text, at, b"op=commit ") {
+        return Number::At(4, at + 10);
+    }
+    if stands(text, at, b"op=abort ") {
+        return Number::At(5, at + 9);
+    }
+    Number::Bad
+}
+
+// The line at this place.
+fn line_at(text: &[u8], at: usize) -> Line
+    requires { ⌜ at ≤ length (now text) ⌝ }
+    ensures { λ r. ⌜ FindsLine (now (text .entry)) at r ⌝ }
+{
+    let Number::At(k, a) = kind_at(text, at) else {
+        return Line::Bad;
+    };
+    let Number::At(t, b) = item_at(text, a, b"tx=", b' ') else {
+        return Line::Bad;
+    };
+    let Number::At(x, c) = item_at(text, b, b"obj=", b' ') else {
+        return Line::Bad;
+    };
+    let Number::At(s, d) = item_at(text, c, b"from=", b'\n') else {
+        return Line::Bad;
+    };
+    Line::At(k, t, x, s, d)
 }
