@@ -4,4 +4,5 @@ pub mod Fronts
 pub mod Items
 pub mod Words
 pub mod Forms
+pub mod Runs
 pub mod Samples

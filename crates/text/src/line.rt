@@ -1,7 +1,8 @@
 // The lines of steps in a text.
 ghost use mathlib.Core.Path.{_≡_};
-ghost use Prim.Native.Nat.{ℕ, _*_, _≤_};
-ghost use lib.ListN.{length};
+ghost use mathlib.Core.List.{[], _∷_, _++_};
+ghost use Prim.Native.Nat.{_+_, _*_, _≤_};
+ghost use lib.ListN.{length, take, drop};
 ghost use Rattle.text.specs.Line.{op, has-word};
 ghost use Rattle.text.specs.Finds.{Finds, FindsLine, Passes};
 use crate::number::Number;
@@ -61,4 +62,36 @@ fn line_at(text: &[u8], at: usize) -> Line
         return Line::Bad;
     };
     Line::At(k, t, x, s, d)
+}
+
+// Puts the numbers of step i in the buffer.
+fn put_step(steps: &mut [u16], i: usize, k: u16, t: u16, x: u16, s: u16)
+    requires { ⌜ 4 * i + 4 ≤ length (now steps) ⌝ }
+    ensures { λ _. ⌜ now (steps .exit) ≡ take (4 * i) (now (steps .entry)) ++ k ∷ t ∷ x ∷ s ∷ [] ++ drop (4 * i + 4) (now (steps .entry)) ⌝ }
+{
+    let a = 4 * i;
+    steps[a] = k;
+    steps[a + 1] = t;
+    steps[a + 2] = x;
+    steps[a + 3] = s;
+}
+
+// Goes over n lines from this place on. Where `keep` is set it puts each step in the buffer.
+pub(crate) fn pass(text: &[u8], at: usize, n: usize, steps: &mut [u16], keep: bool) -> Lines
+    requires { ⌜ (at ≤ length (now text)) × (4 * n ≤ length (now steps)) ⌝ }
+    ensures { λ r. ⌜ Passes (now (text .entry)) at n keep (now (steps .entry)) r (now (steps .exit)) ⌝ }
+{
+    let mut place = at;
+    let mut i = 0;
+    while i < n {
+        let Line::At(k, t, x, s, next) = line_at(text, place) else {
+            return Lines::Bad(i);
+        };
+        if keep {
+            put_step(steps, i, k, t, x, s);
+        }
+        place = next;
+        i += 1;
+    }
+    Lines::To(place)
 }
