@@ -5,4 +5,6 @@ pub mod Items
 pub mod Words
 pub mod Forms
 pub mod Runs
+pub mod Compare
+pub mod Only
 pub mod Samples

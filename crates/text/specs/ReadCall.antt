@@ -41,6 +41,10 @@ said-steps log = read-answer.Steps (steps log)
 unfoldable pub leaves-steps : List ℕ → List (List ℕ)
 leaves-steps log = entries step-entries log ∷ []
 
+-- a call that reads a text, where `given` says which refusal applies
+abbrev pub ReadsCall : (given : Refusal → Type 0) (text buffer : List ℕ) → ReadAnswer → (buffer′ : List ℕ) → Type 0
+ReadsCall given text buffer r buffer′ =
+    Call given read-answer.Refused (Says text) said-steps leaves-steps (buffer ∷ []) r (buffer′ ∷ [])
+
 abbrev pub ReadCall : (text buffer : List ℕ) → ReadAnswer → (buffer′ : List ℕ) → Type 0
-ReadCall text buffer r buffer′ =
-    Call (ReadRefusal text buffer) read-answer.Refused (Says text) said-steps leaves-steps (buffer ∷ []) r (buffer′ ∷ [])
+ReadCall text buffer = ReadsCall (ReadRefusal text buffer) text buffer
