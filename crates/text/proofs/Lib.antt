@@ -7,4 +7,5 @@ pub mod Forms
 pub mod Runs
 pub mod Compare
 pub mod Only
+pub mod Calls
 pub mod Samples

@@ -6,18 +6,16 @@ use mathlib.Core.List.{List, [], _∷_, _++_, append-nil, append-assoc}
 use Prim.Native.Nat.{ℕ, suc, _*_, _/_, _≤_, _<_}
 use native.Mathlib.Omega.{arith}
 use lib.ListN.{length}
-use Rattle.graph.specs.Tests.{_is_, _below_, fails}
 use Rattle.graph.specs.Lists.{entries}
-use Rattle.graph.proofs.Truth.{→is, →not-below}
 use Rattle.verdict.specs.Limits.{most-steps}
 use Rattle.verdict.specs.Log.{steps}
-use Rattle.verdict.specs.Refusal.{Refusal, taken, refused, _at_when_, _else-try_}
-use Rattle.verdict.specs.Call.{turned-away, answered}
+use Rattle.verdict.specs.Refusal.{Refusal, taken, refused}
+use Rattle.verdict.specs.Call.{answered}
 use Rattle.verdict.proofs.Only.{call-one}
 use Rattle.text.specs.Line.{header, sayable, largest}
 use Rattle.text.specs.Text.{lines, text-of, Steps}
 use Rattle.text.specs.Reading.{NoHeader, NoLine, Says, Reading, no-header, too-many, bad-line, extra, in-form}
-use Rattle.text.specs.ReadCall.{most-bytes, step-entries, buffer-refusal, length-refusal, ReadRefusal, said-steps, leaves-steps, ReadCall}
+use Rattle.text.specs.ReadCall.{most-bytes, step-entries, ReadRefusal, wrong-buffer, too-long, by-line, said-steps, leaves-steps, ReadCall}
 use Rattle.text.specs.declared.ReadAnswer.{ReadAnswer}
 use Rattle.text.specs.declared.ReadAnswer.the-variants as read-answer
 use Rattle.text.proofs.Fronts.{→sayable}
@@ -50,15 +48,6 @@ says-one a b =
     text-of-one {n = a .n} {m = b .n} (omega (arith, a .few)) (omega (arith, b .few)) (a .each) (b .each) (sym (a .whole) ∙ b .whole)
 
 -- THE REFUSAL OF A TEXT
--- with a buffer of the right length and a text that is not too long, the lines decide
-pub no-other-refusal : (buffer text : List ℕ) (r : Refusal) → length buffer ≡ step-entries → length text ≤ most-bytes
-    → (buffer-refusal buffer else-try length-refusal text else-try r) ≡ r
-unfolding buffer-refusal length-refusal _else-try_ _at_when_ fails
-no-other-refusal buffer text r p q =
-    let a : (length buffer is step-entries) ≡ true = →is p in
-    let b : (most-bytes below length text) ≡ false = →not-below q in
-    rw (a, b)
-
 -- where the lines stop, with i of n in form and `rest` behind them
 data Stops (n i : ℕ) (rest : List ℕ) : Refusal → Type 0 where
   short : i < n → NoLine rest → Stops n i rest (refused 16 (suc i))
@@ -126,8 +115,15 @@ pub reading-one : {text : List ℕ} {f g : Refusal} → Reading text f → Readi
 reading-one a b = by-header-one (by-header a) (by-header b)
 
 pub read-refusal-one : {text buffer : List ℕ} {f g : Refusal} → ReadRefusal text buffer f → ReadRefusal text buffer g → f ≡ g
-read-refusal-one {text} {buffer} a b =
-    a .first ∙ ap (λ (r : Refusal). buffer-refusal buffer else-try length-refusal text else-try r) (reading-one (a .read) (b .read)) ∙ sym (b .first)
+read-refusal-one (wrong-buffer a) (wrong-buffer b) = refl
+read-refusal-one (wrong-buffer a) (too-long b c) = absurd (a b)
+read-refusal-one (wrong-buffer a) (by-line b c d) = absurd (a b)
+read-refusal-one (too-long b c) (wrong-buffer a) = absurd (a b)
+read-refusal-one (too-long b c) (too-long b′ c′) = refl
+read-refusal-one (too-long b c) (by-line b′ c′ d) = absurd (omega arith)
+read-refusal-one (by-line b c d) (wrong-buffer a) = absurd (a b)
+read-refusal-one (by-line b c d) (too-long b′ c′) = absurd (omega arith)
+read-refusal-one (by-line b c d) (by-line b′ c′ d′) = reading-one d d′
 
 -- A CALL
 -- any two results of one call of `read` are equal, the answer and every entry of the step buffer
@@ -150,9 +146,6 @@ module _ {n : ℕ} {log : List ℕ} (each : Steps n log) (few : n ≤ most-steps
   pub read-back : {buffer : List ℕ} {r : ReadAnswer} {v : List ℕ} → length (text-of log) ≤ most-bytes → length buffer ≡ step-entries
       → ReadCall (text-of log) buffer r v → (r ≡ read-answer.Steps n) × (v ≡ entries step-entries log)
   unfolding said-steps leaves-steps
-  read-back {buffer} short size c =
-      let given : ReadRefusal (text-of log) buffer taken =
-          record { by-line = taken; read = reads-back; first = sym (no-other-refusal buffer (text-of log) taken size short) }
-      in
-      let e = read-call-one c (answered log given text-says refl refl) in
+  read-back {buffer} fits size c =
+      let e = read-call-one c (answered log (by-line size fits reads-back) text-says refl refl) in
       (e .0 ∙ ap read-answer.Steps (steps-count each), e .1)

@@ -1,13 +1,12 @@
 -- What a call of `read` answers, and what it leaves in the lent step buffer.
 use mathlib.Core.Path.{_≡_}
 use mathlib.Core.List.{List, [], _∷_}
-use Prim.Native.Nat.{ℕ, _*_}
+use Prim.Native.Nat.{ℕ, _*_, _≤_, _<_}
 use lib.ListN.{length}
-use Rattle.graph.specs.Tests.{_is_, _below_, fails}
 use Rattle.graph.specs.Lists.{entries}
 use Rattle.verdict.specs.Limits.{most-steps}
 use Rattle.verdict.specs.Log.{steps}
-use Rattle.verdict.specs.Refusal.{Refusal, _at_when_, _else-try_}
+use Rattle.verdict.specs.Refusal.{Refusal, refused}
 use Rattle.verdict.specs.Call.{Call}
 use Rattle.text.specs.Reading.{Reading, Says}
 use Rattle.text.specs.declared.ReadAnswer.{ReadAnswer}
@@ -20,19 +19,13 @@ most-bytes = 33803
 abbrev pub step-entries : ℕ
 step-entries = 4 * most-steps
 
--- 12: the step buffer has a wrong length
-unfoldable pub buffer-refusal : List ℕ → Refusal
-buffer-refusal buffer = 12 at 0 when fails (length buffer is step-entries)
-
--- 15: the text is too long
-unfoldable pub length-refusal : List ℕ → Refusal
-length-refusal text = 15 at 0 when most-bytes below length text
-
--- the first that applies: 12, 15, and then what the lines give
-pub record ReadRefusal (text buffer : List ℕ) (given : Refusal) : Type 0 where
-  pub by-line : Refusal
-  pub read : Reading text by-line
-  pub first : given ≡ (buffer-refusal buffer else-try length-refusal text else-try by-line)
+-- the first refusal that applies, if any: 12, 15, and then what the lines give
+pub data ReadRefusal (text buffer : List ℕ) : Refusal → Type 0 where
+  -- the step buffer has a wrong length
+  wrong-buffer : (length buffer ≡ step-entries → ⊥) → ReadRefusal text buffer (refused 12 0)
+  -- the text is too long
+  too-long : length buffer ≡ step-entries → most-bytes < length text → ReadRefusal text buffer (refused 15 0)
+  by-line : {given : Refusal} → length buffer ≡ step-entries → length text ≤ most-bytes → Reading text given → ReadRefusal text buffer given
 
 -- an accepted text: the number of steps is answered, and the buffer holds the steps and then zeros
 unfoldable pub said-steps : List ℕ → ReadAnswer
