@@ -6,6 +6,7 @@ pub mod Words
 pub mod Forms
 pub mod Runs
 pub mod Compare
+pub mod Puts
 pub mod Only
 pub mod Calls
 pub mod Samples

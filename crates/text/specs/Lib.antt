@@ -6,3 +6,4 @@ pub mod Text
 pub mod Reading
 pub mod ReadCall
 pub mod Finds
+pub mod Put
