@@ -1,8 +1,8 @@
 -- What the parts of `read` answer and leave, put together to its statement.
-use mathlib.Core.Path.{_≡_, refl, sym, ap, subst, _∙_}
-use mathlib.Core.Bool.{Bool, true, false}
+use mathlib.Core.Path.{_≡_, refl, sym, ap, _∙_}
+use mathlib.Core.Bool.{true, false}
 use mathlib.Core.List.{List, [], _∷_, _++_, append-nil, append-assoc}
-use Prim.Native.Nat.{ℕ, suc, _+_, _-_, _*_, _≤_, _<_}
+use Prim.Native.Nat.{ℕ, _+_, _-_, _*_, _≤_, _<_}
 use native.Mathlib.Omega.{arith}
 use native.Mathlib.Numerals.{add-one}
 use lib.ListN.{length, getD, take, drop, drop-of-length-le}
@@ -10,14 +10,12 @@ use lib.Seq.{take-at}
 use Rattle.graph.specs.Lists.{zeros, entries}
 use Rattle.verdict.specs.Limits.{most-steps}
 use Rattle.verdict.specs.Log.{steps}
-use Rattle.verdict.specs.Refusal.{Refusal, taken, refused}
+use Rattle.verdict.specs.Refusal.{Refusal, refused}
 use Rattle.verdict.specs.Call.{turned-away, answered}
-use Rattle.text.specs.Bytes.{bytes, line-end}
-use Rattle.text.specs.Decimal.{decimal}
-use Rattle.text.specs.Line.{item, header, sayable}
+use Rattle.text.specs.Line.{header}
 use Rattle.text.specs.Text.{lines, text-of, Steps}
-use Rattle.text.specs.Reading.{NoLine, Says, Reading, no-header, too-many, bad-line, extra, in-form}
-use Rattle.text.specs.ReadCall.{most-bytes, step-entries, ReadRefusal, by-line, said-steps, leaves-steps, ReadsCall, ReadCall}
+use Rattle.text.specs.Reading.{Says, Reading, bad-line, extra, in-form}
+use Rattle.text.specs.ReadCall.{most-bytes, step-entries, by-line, said-steps, leaves-steps, ReadsCall, ReadCall}
 use Rattle.text.specs.Finds.{kept, Passes}
 use Rattle.text.specs.declared.ReadAnswer.{ReadAnswer}
 use Rattle.text.specs.declared.ReadAnswer.the-variants as read-answer
@@ -90,9 +88,9 @@ module _ (text : List ℕ) (at n : ℕ) (head : text ≡ header n ++ drop at tex
       let log = p .0 in
       let s = p .1 in
       let w : text ≡ text-of log =
-          head
-          ∙ ap (λ (u : List ℕ). header n ++ u) (p .3 ∙ ap (λ (u : List ℕ). lines n log ++ u) (drop-of-length-le text h) ∙ append-nil (lines n log))
-          ∙ sym (text-parts s)
+      head
+      ∙ ap (λ (u : List ℕ). header n ++ u) (p .3 ∙ ap (λ (u : List ℕ). lines n log ++ u) (drop-of-length-le text h) ∙ append-nil (lines n log))
+      ∙ sym (text-parts s)
       in
       let says : Says text log = record { n = n; few = few; each = s; whole = w } in
       answered log (in-form log says) says (ap read-answer.Steps (sym (steps-count s))) (ap (λ (u : List ℕ). u ∷ []) (e ∙ filled buffer₁ buffer₂ s size (again (drop next text) buffer₁ buffer₂ r s (p .3) q)))

@@ -1,16 +1,15 @@
 -- Two ways to read one text's lines: they agree, or where one stops the other has a line more.
 use mathlib.Core.Path.{_≡_, refl, sym, ap, _∙_}
-use mathlib.Core.Bool.{Bool, true}
+use mathlib.Core.Bool.{true}
 use mathlib.Core.List.{List, [], _∷_, _++_, append-assoc}
-use Prim.Native.Nat.{ℕ, zero, suc, _+_, _≤_, _<_}
+use Prim.Native.Nat.{ℕ, suc, _+_, _<_}
 use native.Mathlib.Omega.{arith}
 use Rattle.graph.proofs.Truth.{and→}
 use Rattle.text.specs.Bytes.{bytes, line-end}
-use Rattle.text.specs.Decimal.{decimal}
-use Rattle.text.specs.Line.{item, header, op, line, sayable, has-word, sayable-step}
+use Rattle.text.specs.Line.{header, line, sayable, has-word, sayable-step}
 use Rattle.text.specs.Text.{lines, Steps, no-step, a-step}
 use Rattle.text.specs.Reading.{NoLine}
-use Rattle.text.proofs.Forms.{Free, op-free, tx-free, obj-free, from-free, item-free, line-end-apart, tx-item, obj-item, from-item, line-parts}
+use Rattle.text.proofs.Forms.{Free, op-free, tx-free, obj-free, from-free, item-free, line-end-apart, line-parts}
 use Rattle.text.proofs.Runs.{lines-none, lines-first}
 
 pub header-free : Free header sayable

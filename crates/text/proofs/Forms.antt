@@ -2,14 +2,12 @@
 use mathlib.Core.Path.{_≡_, refl, sym, ap, subst, _∙_}
 use mathlib.Core.Bool.{Bool, true, false}
 use mathlib.Core.List.{List, [], _∷_, _++_, append-assoc}
-use Prim.Native.Nat.{ℕ, _+_, _≤_}
-use native.Mathlib.Omega.{arith}
-use lib.ListN.{length, drop}
+use Prim.Native.Nat.{ℕ, _+_}
 use Rattle.graph.specs.Tests.{_upto_, _and_}
 use Rattle.graph.proofs.Truth.{not-both, and→, →and}
 use Rattle.text.specs.Bytes.{bytes, blank, line-end}
 use Rattle.text.specs.Decimal.{decimal}
-use Rattle.text.specs.Line.{item, header, op, line, sayable, has-word, sayable-step}
+use Rattle.text.specs.Line.{item, op, line, sayable, has-word, sayable-step}
 use Rattle.text.specs.Reading.{NoLine}
 use Rattle.text.specs.Finds.{is-digit, Finds}
 use Rattle.text.specs.declared.number.Number.{Number}

@@ -1,5 +1,5 @@
 -- A key and its value at a place of a text.
-use mathlib.Core.Path.{_≡_, refl, sym, ap, _∙_}
+use mathlib.Core.Path.{_≡_, sym, ap, _∙_}
 use mathlib.Core.Bool.{Bool, true, false}
 use mathlib.Core.List.{List, [], _∷_, _++_, append-assoc}
 use Prim.Native.Nat.{ℕ, _+_, _-_, _≤_}
@@ -7,8 +7,7 @@ use native.Mathlib.Omega.{arith}
 use lib.ListN.{length, drop, length-append, length-drop}
 use lib.Seq.{drop-drop}
 use Rattle.graph.proofs.Truth.{not-both}
-use Rattle.text.specs.Decimal.{decimal}
-use Rattle.text.specs.Line.{item, sayable}
+use Rattle.text.specs.Line.{item}
 use Rattle.text.specs.Finds.{starts, Finds}
 use Rattle.text.specs.declared.number.Number.{Number}
 use Rattle.text.specs.declared.number.Number.the-variants.{At, Bad}
@@ -33,7 +32,7 @@ module _ (text : List ℕ) (at : ℕ) (key : List ℕ) where
   stands-fits k h =
       let n = at + length key in
       let e : length text - at ≡ length key + (length text - n) =
-          sym (length-drop at text) ∙ ap length (stands-there h) ∙ length-append key (drop n text) ∙ ap (λ (m : ℕ). length key + m) (length-drop n text)
+      sym (length-drop at text) ∙ ap length (stands-there h) ∙ length-append key (drop n text) ∙ ap (λ (m : ℕ). length key + m) (length-drop n text)
       in
       omega arith
 

@@ -1,9 +1,9 @@
 -- A text has one reading: which refusal it gets, which log it says, and what a call of `read` answers and leaves.
 -- And what `text-of` writes is read back.
 use mathlib.Core.Path.{_≡_, refl, sym, ap, subst, _∙_}
-use mathlib.Core.Bool.{Bool, true, false}
+use mathlib.Core.Bool.{true}
 use mathlib.Core.List.{List, [], _∷_, _++_, append-nil, append-assoc}
-use Prim.Native.Nat.{ℕ, suc, _*_, _/_, _≤_, _<_}
+use Prim.Native.Nat.{ℕ, suc, _*_, _≤_, _<_}
 use native.Mathlib.Omega.{arith}
 use lib.ListN.{length}
 use Rattle.graph.specs.Lists.{entries}
@@ -20,7 +20,7 @@ use Rattle.text.specs.declared.ReadAnswer.{ReadAnswer}
 use Rattle.text.specs.declared.ReadAnswer.the-variants as read-answer
 use Rattle.text.proofs.Fronts.{→sayable}
 use Rattle.text.proofs.Runs.{steps-length}
-use Rattle.text.proofs.Compare.{header-free, HasLine, no-line, Compared, agree, less, more, compare}
+use Rattle.text.proofs.Compare.{header-free, no-line, Compared, agree, less, more, compare}
 
 -- THE LOG OF A TEXT
 pub steps-count : {n : ℕ} {log : List ℕ} → Steps n log → steps log ≡ n

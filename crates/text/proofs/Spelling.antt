@@ -1,13 +1,13 @@
 -- Laws of `decimal`: how it is spelled, that it says its number, and where it ends in a text.
 use mathlib.Core.Path.{_≡_, refl, sym, ap, _∙_}
 use mathlib.Core.Bool.{Bool, true, false}
-use mathlib.Core.List.{List, [], _∷_, _++_, append-assoc}
+use mathlib.Core.List.{List, [], _∷_, _++_}
 use mathlib.Core.Logic.{_⊎_, inl, inr, ⊎-elim}
 use Prim.Native.Nat.{ℕ, zero, suc, _+_, _-_, _*_, _/_, _%_, _≤_, _<_}
 use native.Mathlib.Omega.{arith}
-use Rattle.graph.specs.Tests.{_below_, _upto_, _and_, if_then_else_}
+use Rattle.graph.specs.Tests.{_below_, _upto_, _and_}
 use Rattle.graph.specs.Lists.{all}
-use Rattle.graph.proofs.Truth.{decide, not-both, to-false, and→, →and, below→, →below, not-below→, upto→, →upto, if-true, if-false}
+use Rattle.graph.proofs.Truth.{decide, not-both, and→, →and, below→, →below, not-below→, upto→, →upto, if-true, if-false}
 use Rattle.text.specs.Decimal.{digit, digits, decimal}
 use Rattle.text.specs.Finds.{is-digit}
 

@@ -1,7 +1,7 @@
 // The text reader, and numbers in decimal.
-mod number;
-mod line;
 mod decimal;
+mod line;
+mod number;
 
 ghost use mathlib.Core.Path.{_≡_};
 ghost use mathlib.Core.List.{_++_};

@@ -1,3 +1,4 @@
+-- `clear_from` meets its contract. At each turn the entries from `from` to `i` are 0, and those before are as they were.
 use native.Mathlib.Omega.{arith}
 use native.Mathlib.Numerals.{add-one}
 use mathlib.Core.Path.{_≡_, refl, sym, ap, _∙_}
@@ -8,8 +9,6 @@ use lib.Seq.{take-suc-set, take-all}
 use Rattle.graph.specs.Lists.{zeros}
 use Rattle.text.proofs.clear_from.Statement.{statement}
 use Rattle.text.proofs.clear_from.Tie as tie
-use Rattle.text.proofs.clear_from.Reads as reads
-use Rattle.text.proofs.clear_from.Lts as lts
 
 abbrev Inv-loop : tie.InvT-loop
 Inv-loop steps₀ from i₀ steps i =
@@ -37,39 +36,31 @@ one-zero l v from i h k e =
 all-zeros : (l v : List ℕ) (from i : ℕ) → length v ≡ i → length l ≡ length v → take i l ≡ take from v ++ zeros (i - from) → l ≡ take from v ++ zeros (length v - from)
 all-zeros l v from i h k e = rw h (sym (take-all i l (omega arith)) ∙ e)
 
--- src/lib.rt:89:5
 loop-holds : tie.Need-loop-holds Inv-loop μ-loop
 loop-holds c = (omega arith, omega arith, refl, no-zeros (c .args .steps .now) (c .args .from))
 
--- src/lib.rt:90:9
 mul-steps : tie.Need-mul-steps Inv-loop μ-loop
 mul-steps c = omega arith
 
--- src/lib.rt:90:9
 slice-write-steps : tie.Need-slice-write-steps Inv-loop μ-loop
 slice-write-steps c = omega arith
 
--- src/lib.rt:91:9
 add-i : tie.Need-add-i Inv-loop μ-loop
 add-i c = omega arith
 
--- src/lib.rt:89:5
 loop-less : tie.Need-loop-less Inv-loop μ-loop
 loop-less c = omega arith
 
--- src/lib.rt:89:5
 loop-again : tie.Need-loop-again Inv-loop μ-loop
-loop-again c = 
+loop-again c =
     let l = c .before .loop in
     (omega arith, omega arith, simp length-set (l .inv .2), one-zero _ _ (c .before .before .args .from) _ (omega arith) (l .inv .0) (l .inv .3))
 
--- src/lib.rt:84:1
 same-length : tie.Need-same-length Inv-loop μ-loop
 same-length c = c .before .loop .inv .2
 
--- src/lib.rt:84:1
 returns : tie.Need-returns Inv-loop μ-loop
-returns c = 
+returns c =
     let l = c .before .loop in
     all-zeros _ _ (c .before .before .args .from) (l .i) (omega arith) (l .inv .2) (l .inv .3)
 

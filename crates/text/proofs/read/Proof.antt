@@ -1,40 +1,32 @@
+-- `read` meets its contract: 12 and 15 come before what the lines give.
 use borrow.Author.Needs.{needs}
 use mathlib.Core.Path.{refl}
 use Rattle.text.specs.ReadCall.{wrong-buffer, too-long}
 use Rattle.text.proofs.Calls.{away, lines-decide}
 use Rattle.text.proofs.read.Statement.{statement}
 use Rattle.text.proofs.read.Tie as tie
-use Rattle.text.proofs.read.Reads as reads
-use Rattle.text.proofs.read.Lts as lts
-use Rattle.text.proofs.read_header.Reads as read-header-reads
 
--- src/lib.rt:40:23
 mul-if1 : tie.Need-mul-if1
 mul-if1 c = search needs
 
--- src/lib.rt:41:9
 returns : tie.Need-returns
-returns c = 
+returns c =
     let b = c .before .before .before .args in
     away (b .text .now) (b .steps .now) 12 0 (wrong-buffer (c .if1 .taken)) refl
 
--- src/lib.rt:44:9
 returns-2 : tie.Need-returns-2
-returns-2 c = 
+returns-2 c =
     let b = c .before .before .before .before .args in
     away (b .text .now) (b .steps .now) 15 0 (too-long (c .before .if1 .left) (c .if2 .taken)) refl
 
--- src/lib.rt:46:5
 read-header-requires : tie.Need-read-header-requires
 read-header-requires c κs = search needs
 
--- src/lib.rt:37:1
 same-length : tie.Need-same-length
 same-length c = search needs
 
--- src/lib.rt:37:1
 returns-3 : tie.Need-returns-3
-returns-3 c = 
+returns-3 c =
     let d = c .before .before .before .before in
     lines-decide (d .before .if1 .left) (d .if2 .left) (c .before .before .read-header .ensures)
 

@@ -1,3 +1,4 @@
+-- `read_header` meets its contract: 16 and 2 for the header come before what the other lines give.
 use borrow.Author.Needs.{needs}
 use native.Mathlib.Omega.{arith}
 use mathlib.Core.Path.{refl}
@@ -10,10 +11,6 @@ use Rattle.text.proofs.Forms.{found, not-found, line-end-apart}
 use Rattle.text.proofs.Calls.{away}
 use Rattle.text.proofs.read_header.Statement.{statement}
 use Rattle.text.proofs.read_header.Tie as tie
-use Rattle.text.proofs.read_header.Reads as reads
-use Rattle.text.proofs.read_header.Lts as lts
-use Rattle.text.proofs.number.item_at.Reads as item-at-reads
-use Rattle.text.proofs.read_steps.Reads as read-steps-reads
 
 -- the header that was found
 header-there : (c : tie.After-count) →
@@ -21,51 +18,41 @@ header-there : (c : tie.After-count) →
 unfolding header bytes
 header-there c = found header sayable _ 0 (c .before .before .item-at .ensures) (c .count .given .1)
 
--- src/lib.rt:54:50
 slice-aggregate-item-at : tie.Need-slice-aggregate-item-at
 slice-aggregate-item-at c = search needs
 
--- src/lib.rt:54:33
 item-at-requires : tie.Need-item-at-requires
 item-at-requires c κs = (omega arith, line-end-apart)
 
--- src/lib.rt:54:20
 enum-known-count : tie.Need-enum-known-count
 enum-known-count c = search needs
 
--- src/lib.rt:55:9
 enum-told : tie.Need-enum-told
 enum-told c = search needs
 
--- src/lib.rt:55:9
 returns : tie.Need-returns
 unfolding header bytes
-returns c = 
+returns c =
     let b = c .before .before .before .before .before .before .args in
     away (b .text .now) (b .steps .now) 16 0 (no-header (not-found header sayable (b .text .now) 0 (c .before .before .item-at .ensures) (c .enum-told .given .1))) refl
 
--- src/lib.rt:57:13
 cast-n : tie.Need-cast-n
 cast-n c = search needs
 
--- src/lib.rt:59:9
 returns-2 : tie.Need-returns-2
-returns-2 c = 
+returns-2 c =
     let h = header-there (c .before .before) in
     let b = c .before .before .before .before .before .before .before .before .args in
     away (b .text .now) (b .steps .now) 2 0 (too-many _ _ (h .0) (c .if1 .taken) (h .2)) refl
 
--- src/lib.rt:61:5
 read-steps-requires : tie.Need-read-steps-requires
-read-steps-requires c κs = 
+read-steps-requires c κs =
     let h = header-there (c .before .before .before) in
     (h .1, h .2, c .before .if1 .left, c .before .before .before .before .before .before .before .before .before .pre)
 
--- src/lib.rt:50:1
 same-length : tie.Need-same-length
 same-length c = search needs
 
--- src/lib.rt:50:1
 returns-3 : tie.Need-returns-3
 returns-3 c = search needs
 

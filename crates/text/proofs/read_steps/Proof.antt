@@ -1,17 +1,14 @@
+-- `read_steps` meets its contract: the first pass says which refusal applies, and the second fills the buffer.
 use borrow.Author.Needs.{needs}
 use native.Mathlib.Omega.{arith}
 use mathlib.Core.Path.{subst, _∙_}
-use mathlib.Core.Bool.{true, false}
+use mathlib.Core.Bool.{false}
 use Rattle.text.specs.Finds.{Passes}
 use Rattle.text.specs.declared.line.Lines.{Lines}
 use Rattle.text.specs.declared.line.Lines.the-variants.{To, Bad}
 use Rattle.text.proofs.Calls.{a-bad-line, extra-bytes, all-read}
 use Rattle.text.proofs.read_steps.Statement.{statement}
 use Rattle.text.proofs.read_steps.Tie as tie
-use Rattle.text.proofs.read_steps.Reads as reads
-use Rattle.text.proofs.read_steps.Lts as lts
-use Rattle.text.proofs.clear_from.Reads as clear-from-reads
-use Rattle.text.proofs.line.pass.Reads as pass-reads
 
 -- what the first pass has found, where its answer is known
 abbrev First : tie.After-pass → Lines → Type 0
@@ -31,65 +28,51 @@ looked2 c = c .before .before .before .before
 lines-fine : (c : tie.After-seen2) → First (looked2 c) (To (c .seen2 .given .0 .0))
 lines-fine c = subst (First (looked2 c)) (c .seen2 .given .1) (looked2 c .pass .ensures)
 
--- src/lib.rt:69:9
 pass-requires : tie.Need-pass-requires
 pass-requires c κs = search needs
 
--- src/lib.rt:71:20
 enum-known-seen : tie.Need-enum-known-seen
 enum-known-seen c = search needs
 
--- src/lib.rt:71:50
 add-t11 : tie.Need-add-t11
 add-t11 c = omega (arith, a-line-bad (c .before) .2)
 
--- src/lib.rt:72:19
 enum-known-seen-2 : tie.Need-enum-known-seen-2
 enum-known-seen-2 c = search needs
 
--- src/lib.rt:74:48
 add-t14 : tie.Need-add-t14
 add-t14 c = search needs
 
--- src/lib.rt:74:17
 same-length : tie.Need-same-length
 same-length c = search needs
 
--- src/lib.rt:74:17
 returns : tie.Need-returns
-returns c = 
+returns c =
     let b = looked2 (c .before .before) .before .before .before .before in
     extra-bytes (b .args .text .now) (b .args .at) (b .args .n) (b .pre .1) (b .pre .2) (b .args .steps .now) _ (lines-fine (c .before .before)) (c .if1 .taken)
 
--- src/lib.rt:76:13
 pass-requires-2 : tie.Need-pass-requires-2
 pass-requires-2 c κs = search needs
 
--- src/lib.rt:77:31
 mul-clear-from : tie.Need-mul-clear-from
 mul-clear-from c = search needs
 
--- src/lib.rt:77:13
 clear-from-requires : tie.Need-clear-from-requires
 clear-from-requires c κs = search needs
 
--- src/lib.rt:65:1
 same-length-2 : tie.Need-same-length-2
 same-length-2 c = search needs
 
--- src/lib.rt:65:1
 returns-2 : tie.Need-returns-2
-returns-2 c = 
+returns-2 c =
     let b = looked (c .before) .before .before .before .before in
     a-bad-line (b .args .text .now) (b .args .at) (b .args .n) (b .pre .1) (b .pre .2) (b .args .steps .now) _ (a-line-bad (c .before))
 
--- src/lib.rt:65:1
 same-length-3 : tie.Need-same-length-3
 same-length-3 c = search needs
 
--- src/lib.rt:65:1
 returns-3 : tie.Need-returns-3
-returns-3 c = 
+returns-3 c =
     let d = c .before .before .before .before .before .before in
     let e = d .before .before in
     let f = e .before .before in

@@ -1,3 +1,4 @@
+-- `kind_at` meets its contract: one of the five words stands there, or none.
 use borrow.Author.Needs.{needs}
 use mathlib.Core.Path.{sym, _∙_}
 use lib.ListN.{drop}
@@ -7,106 +8,82 @@ use Rattle.text.specs.Line.{word, item, op}
 use Rattle.text.proofs.Words.{begin, read, write, commit, abort, op-stands, no-kind}
 use Rattle.text.proofs.line.kind_at.Statement.{statement}
 use Rattle.text.proofs.line.kind_at.Tie as tie
-use Rattle.text.proofs.line.kind_at.Reads as reads
-use Rattle.text.proofs.line.kind_at.Lts as lts
-use Rattle.text.proofs.number.stands.Reads as stands-reads
 
--- src/line.rt:29:25
 slice-aggregate-stands : tie.Need-slice-aggregate-stands
 slice-aggregate-stands c = search needs
 
--- src/line.rt:29:8
 stands-requires : tie.Need-stands-requires
 stands-requires c κs = search needs
 
--- src/line.rt:30:30
 add-t11 : tie.Need-add-t11
 add-t11 c = search needs
 
--- src/line.rt:30:9
 returns : tie.Need-returns
 unfolding op item word bytes _is_ if_then_else_
 returns c =
     let a = c .before .before .before .before in
     op-stands (a .args .text .now) (a .args .at) begin (a .pre) (sym (c .before .stands .ensures) ∙ c .if1 .taken)
 
--- src/line.rt:32:25
 slice-aggregate-stands-2 : tie.Need-slice-aggregate-stands-2
 slice-aggregate-stands-2 c = search needs
 
--- src/line.rt:32:8
 stands-requires-2 : tie.Need-stands-requires-2
 stands-requires-2 c κs = search needs
 
--- src/line.rt:33:30
 add-t15 : tie.Need-add-t15
 add-t15 c = search needs
 
--- src/line.rt:33:9
 returns-2 : tie.Need-returns-2
 unfolding op item word bytes _is_ if_then_else_
 returns-2 c =
     let a = c .before .before .before .before .before .before .before in
     op-stands (a .args .text .now) (a .args .at) read (a .pre) (sym (c .before .stands2 .ensures) ∙ c .if2 .taken)
 
--- src/line.rt:35:25
 slice-aggregate-stands-3 : tie.Need-slice-aggregate-stands-3
 slice-aggregate-stands-3 c = search needs
 
--- src/line.rt:35:8
 stands-requires-3 : tie.Need-stands-requires-3
 stands-requires-3 c κs = search needs
 
--- src/line.rt:36:30
 add-t19 : tie.Need-add-t19
 add-t19 c = search needs
 
--- src/line.rt:36:9
 returns-3 : tie.Need-returns-3
 unfolding op item word bytes _is_ if_then_else_
 returns-3 c =
     let a = c .before .before .before .before .before .before .before .before .before .before in
     op-stands (a .args .text .now) (a .args .at) write (a .pre) (sym (c .before .stands3 .ensures) ∙ c .if3 .taken)
 
--- src/line.rt:38:25
 slice-aggregate-stands-4 : tie.Need-slice-aggregate-stands-4
 slice-aggregate-stands-4 c = search needs
 
--- src/line.rt:38:8
 stands-requires-4 : tie.Need-stands-requires-4
 stands-requires-4 c κs = search needs
 
--- src/line.rt:39:30
 add-t23 : tie.Need-add-t23
 add-t23 c = search needs
 
--- src/line.rt:39:9
 returns-4 : tie.Need-returns-4
 unfolding op item word bytes _is_ if_then_else_
 returns-4 c =
     let a = c .before .before .before .before .before .before .before .before .before .before .before .before .before in
     op-stands (a .args .text .now) (a .args .at) commit (a .pre) (sym (c .before .stands4 .ensures) ∙ c .if4 .taken)
 
--- src/line.rt:41:25
 slice-aggregate-stands-5 : tie.Need-slice-aggregate-stands-5
 slice-aggregate-stands-5 c = search needs
 
--- src/line.rt:41:8
 stands-requires-5 : tie.Need-stands-requires-5
 stands-requires-5 c κs = search needs
 
--- src/line.rt:42:30
 add-t27 : tie.Need-add-t27
 add-t27 c = search needs
 
--- src/line.rt:42:9
 returns-5 : tie.Need-returns-5
 unfolding op item word bytes _is_ if_then_else_
 returns-5 c =
     let a = c .before .before .before .before .before .before .before .before .before .before .before .before .before .before .before .before in
     op-stands (a .args .text .now) (a .args .at) abort (a .pre) (sym (c .before .stands5 .ensures) ∙ c .if5 .taken)
 
--- src/line.rt:25:1
 returns-6 : tie.Need-returns-6
 unfolding op item word bytes _is_ if_then_else_
 returns-6 c =

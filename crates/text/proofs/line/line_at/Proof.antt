@@ -1,18 +1,14 @@
+-- `line_at` meets its contract: its four parts follow one another, or the first that is missing leaves no line.
 use borrow.Author.Needs.{needs}
 use mathlib.Core.List.{List}
 use Prim.Native.Nat.{ℕ}
-use lib.ListN.{drop}
 use Rattle.text.specs.Bytes.{bytes}
 use Rattle.text.specs.Line.{op, sayable, has-word}
 use Rattle.text.specs.Finds.{Finds}
-use Rattle.text.specs.declared.number.Number.the-variants.{At, Bad}
+use Rattle.text.specs.declared.number.Number.the-variants.{At}
 use Rattle.text.proofs.Forms.{found, not-found, begins-not, goes-not-on, blank-apart, line-end-apart, tx-item, obj-item, from-item, op-free, tx-free, obj-free, no-parts, a-line, →step}
 use Rattle.text.proofs.line.line_at.Statement.{statement}
 use Rattle.text.proofs.line.line_at.Tie as tie
-use Rattle.text.proofs.line.line_at.Reads as reads
-use Rattle.text.proofs.line.line_at.Lts as lts
-use Rattle.text.proofs.line.kind_at.Reads as kind-at-reads
-use Rattle.text.proofs.number.item_at.Reads as item-at-reads
 
 -- the text, and each part that was found: where it stands, its number, and the place behind it
 abbrev text : tie.After-k → List ℕ
@@ -42,67 +38,53 @@ from-there : (c : tie.After-s) → Finds from-item sayable (text (kind-of (tx-of
 unfolding from-item bytes
 from-there c = found from-item sayable _ _ (c .before .before .item-at3 .ensures) (c .s .given .1)
 
--- src/line.rt:52:28
 kind-at-requires : tie.Need-kind-at-requires
 kind-at-requires c κs = search needs
 
--- src/line.rt:52:20
 enum-known-k : tie.Need-enum-known-k
 enum-known-k c = search needs
 
--- src/line.rt:53:9
 enum-told : tie.Need-enum-told
 enum-told c = search needs
 
--- src/line.rt:53:9
 returns : tie.Need-returns
 returns c = no-parts (begins-not (not-found op has-word _ _ (c .before .before .kind-at .ensures) (c .enum-told .given .1)))
 
--- src/line.rt:55:45
 slice-aggregate-item-at : tie.Need-slice-aggregate-item-at
 slice-aggregate-item-at c = search needs
 
--- src/line.rt:55:28
 item-at-requires : tie.Need-item-at-requires
 item-at-requires c κs = (kind-there (c .before .before) .1, blank-apart)
 
--- src/line.rt:55:20
 enum-known-t : tie.Need-enum-known-t
 enum-known-t c = search needs
 
--- src/line.rt:56:9
 enum-told-2 : tie.Need-enum-told-2
 enum-told-2 c = search needs
 
--- src/line.rt:56:9
 returns-2 : tie.Need-returns-2
 unfolding tx-item bytes
-returns-2 c = 
+returns-2 c =
     let k = kind-there (c .before .before .before .before .before) in
     no-parts
     (goes-not-on _ _ op-free (k .0) (k .2)
     (begins-not (not-found tx-item sayable _ _ (c .before .before .item-at .ensures) (c .enum-told2 .given .1))))
 
--- src/line.rt:58:45
 slice-aggregate-item-at-2 : tie.Need-slice-aggregate-item-at-2
 slice-aggregate-item-at-2 c = search needs
 
--- src/line.rt:58:28
 item-at-requires-2 : tie.Need-item-at-requires-2
 item-at-requires-2 c κs = (tx-there (c .before .before) .1, blank-apart)
 
--- src/line.rt:58:20
 enum-known-x : tie.Need-enum-known-x
 enum-known-x c = search needs
 
--- src/line.rt:59:9
 enum-told-3 : tie.Need-enum-told-3
 enum-told-3 c = search needs
 
--- src/line.rt:59:9
 returns-3 : tie.Need-returns-3
 unfolding obj-item bytes
-returns-3 c = 
+returns-3 c =
     let d = c .before .before .before .before .before in
     let k = kind-there (kind-of d) in
     let t = tx-there d in
@@ -111,26 +93,21 @@ returns-3 c =
     (goes-not-on _ _ tx-free (t .0) (t .2)
     (begins-not (not-found obj-item sayable _ _ (c .before .before .item-at2 .ensures) (c .enum-told3 .given .1)))))
 
--- src/line.rt:61:45
 slice-aggregate-item-at-3 : tie.Need-slice-aggregate-item-at-3
 slice-aggregate-item-at-3 c = search needs
 
--- src/line.rt:61:28
 item-at-requires-3 : tie.Need-item-at-requires-3
 item-at-requires-3 c κs = (obj-there (c .before .before) .1, line-end-apart)
 
--- src/line.rt:61:20
 enum-known-s : tie.Need-enum-known-s
 enum-known-s c = search needs
 
--- src/line.rt:62:9
 enum-told-4 : tie.Need-enum-told-4
 enum-told-4 c = search needs
 
--- src/line.rt:62:9
 returns-4 : tie.Need-returns-4
 unfolding from-item bytes
-returns-4 c = 
+returns-4 c =
     let d = c .before .before .before .before .before in
     let k = kind-there (kind-of (tx-of d)) in
     let t = tx-there (tx-of d) in
@@ -141,9 +118,8 @@ returns-4 c =
     (goes-not-on _ _ obj-free (x .0) (x .2)
     (begins-not (not-found from-item sayable _ _ (c .before .before .item-at3 .ensures) (c .enum-told4 .given .1))))))
 
--- src/line.rt:48:1
 returns-5 : tie.Need-returns-5
-returns-5 c = 
+returns-5 c =
     let d = c .before in
     let k = kind-there (kind-of (tx-of (obj-of d))) in
     let t = tx-there (tx-of (obj-of d)) in

@@ -1,19 +1,16 @@
+-- `pass` meets its contract. At each turn it has gone over `i` lines, and the buffer is as `kept` says.
 use borrow.Author.Needs.{needs}
 use native.Mathlib.Omega.{arith}
-use mathlib.Core.Path.{_≡_, refl, sym, ap, subst, _∙_}
+use mathlib.Core.Path.{_≡_, refl, ap, subst, _∙_}
 use mathlib.Core.Logic.{⊎-elim}
-use mathlib.Core.List.{List, _++_}
-use Prim.Native.Nat.{ℕ, _+_, _-_, _*_, _≤_, _<_}
-use lib.ListN.{length, drop}
+use mathlib.Core.List.{List}
+use Prim.Native.Nat.{ℕ, _-_, _≤_}
+use lib.ListN.{length}
 use Rattle.text.specs.Finds.{FindsLine}
 use Rattle.text.specs.declared.line.Line.the-variants.{At}
 use Rattle.text.proofs.Runs.{Gone, gone-nowhere, gone-on, gone-on-keeping, gone-over}
 use Rattle.text.proofs.line.pass.Statement.{statement}
 use Rattle.text.proofs.line.pass.Tie as tie
-use Rattle.text.proofs.line.pass.Reads as reads
-use Rattle.text.proofs.line.pass.Lts as lts
-use Rattle.text.proofs.line.line_at.Reads as line-at-reads
-use Rattle.text.proofs.line.put_step.Reads as put-step-reads
 
 abbrev Inv-loop : tie.InvT-loop
 Inv-loop text at n steps₀ keep place₀ i₀ steps place i =
@@ -31,48 +28,38 @@ line-there : (c : tie.After-k Inv-loop μ-loop) →
     FindsLine (text (c .before .before .before)) (c .before .before .before .before .loop .place) (At (n .0) (n .1 .0) (n .1 .1 .0) (n .1 .1 .1 .0) (n .1 .1 .1 .1 .0))
 line-there c = subst (FindsLine (text (c .before .before .before)) (c .before .before .before .before .loop .place)) (c .k .given .1) (c .before .before .line-at .ensures)
 
--- src/line.rt:86:5
 loop-holds : tie.Need-loop-holds Inv-loop μ-loop
 loop-holds c = (omega arith, omega arith, refl, gone-nowhere _ _ _ _)
 
--- src/line.rt:87:42
 line-at-requires : tie.Need-line-at-requires Inv-loop μ-loop
 line-at-requires c κs = omega arith
 
--- src/line.rt:87:22
 enum-known-k : tie.Need-enum-known-k Inv-loop μ-loop
 enum-known-k c = search needs
 
--- src/line.rt:88:13
 enum-told : tie.Need-enum-told Inv-loop μ-loop
 enum-told c = search needs
 
--- src/line.rt:88:13
 same-length : tie.Need-same-length Inv-loop μ-loop
 same-length c = c .before .before .before .before .loop .inv .2
 
--- src/line.rt:88:13
 returns : tie.Need-returns Inv-loop μ-loop
-returns c = 
+returns c =
     let l = c .before .before .before .before .loop in
     let g = l .inv .3 in
     (g .log, _, omega arith, g .each, g .over, subst (FindsLine (text (c .before .before .before)) (l .place)) (c .enum-told .given .1) (c .before .before .line-at .ensures), g .holds)
 
--- src/line.rt:91:13
 put-step-requires : tie.Need-put-step-requires Inv-loop μ-loop
 put-step-requires c κs = omega arith
 
--- src/line.rt:94:9
 add-i : tie.Need-add-i Inv-loop μ-loop
 add-i c = omega arith
 
--- src/line.rt:86:5
 loop-less : tie.Need-loop-less Inv-loop μ-loop
 loop-less c = omega arith
 
--- src/line.rt:86:5
 loop-again : tie.Need-loop-again Inv-loop μ-loop
-loop-again c = 
+loop-again c =
     let f = line-there (c .before .before) in
     let g = c .before .before .before .before .before .before .loop .inv in
     ⊎-elim
@@ -80,11 +67,9 @@ loop-again c =
     (λ w. (omega arith, f .1, ap length (w .1) ∙ g .2, gone-on _ _ _ _ _ f _ (w .0 .left) (w .1) (g .3)))
     (c .if1 .came)
 
--- src/line.rt:80:1
 same-length-2 : tie.Need-same-length-2 Inv-loop μ-loop
 same-length-2 c = c .before .loop .inv .2
 
--- src/line.rt:80:1
 returns-2 : tie.Need-returns-2 Inv-loop μ-loop
 returns-2 c = gone-over _ (omega arith) (c .before .loop .inv .1) (c .before .loop .inv .3)
 

@@ -1,6 +1,6 @@
+-- `put_step` meets its contract: four stores, one after another.
 use borrow.Author.Needs.{needs}
 use native.Mathlib.Omega.{arith}
-use native.Mathlib.Numerals.{add-one}
 use mathlib.Core.Path.{_≡_}
 use mathlib.Core.List.{List, [], _∷_, _++_}
 use Prim.Native.Nat.{ℕ, suc, _+_, _*_, _≤_}
@@ -8,8 +8,6 @@ use lib.ListN.{length, take, drop, set, length-set}
 use lib.Seq.{sets-eq}
 use Rattle.text.proofs.line.put_step.Statement.{statement}
 use Rattle.text.proofs.line.put_step.Tie as tie
-use Rattle.text.proofs.line.put_step.Reads as reads
-use Rattle.text.proofs.line.put_step.Lts as lts
 
 -- four stores, one after another
 four-stores : (l : List ℕ) (a k t x s : ℕ) → a + 4 ≤ length l
@@ -20,59 +18,45 @@ four-stores l a k t x s h =
     let r : a + 3 ≡ suc (suc (suc a)) = omega arith in
     rw (p, q, r) (sets-eq (k ∷ t ∷ x ∷ s ∷ []) l a h)
 
--- src/line.rt:72:13
 mul-a : tie.Need-mul-a
 mul-a c = search needs
 
--- src/line.rt:73:5
 mul-steps : tie.Need-mul-steps
 mul-steps c = search needs
 
--- src/line.rt:73:5
 slice-write-steps : tie.Need-slice-write-steps
 slice-write-steps c = search needs
 
--- src/line.rt:74:11
 add-steps : tie.Need-add-steps
 add-steps c = search needs
 
--- src/line.rt:74:5
 mul-steps-2 : tie.Need-mul-steps-2
 mul-steps-2 c = search needs
 
--- src/line.rt:74:5
 slice-write-steps-2 : tie.Need-slice-write-steps-2
 slice-write-steps-2 c = simp length-set (omega arith)
 
--- src/line.rt:75:11
 add-steps-2 : tie.Need-add-steps-2
 add-steps-2 c = search needs
 
--- src/line.rt:75:5
 mul-steps-3 : tie.Need-mul-steps-3
 mul-steps-3 c = search needs
 
--- src/line.rt:75:5
 slice-write-steps-3 : tie.Need-slice-write-steps-3
 slice-write-steps-3 c = simp length-set (omega arith)
 
--- src/line.rt:76:11
 add-steps-3 : tie.Need-add-steps-3
 add-steps-3 c = search needs
 
--- src/line.rt:76:5
 mul-steps-4 : tie.Need-mul-steps-4
 mul-steps-4 c = search needs
 
--- src/line.rt:76:5
 slice-write-steps-4 : tie.Need-slice-write-steps-4
 slice-write-steps-4 c = simp length-set (omega arith)
 
--- src/line.rt:68:1
 same-length : tie.Need-same-length
 same-length c = search needs
 
--- src/line.rt:68:1
 returns : tie.Need-returns
 returns c = four-stores (c .args .steps .now) (4 * c .args .i) _ _ _ _ (omega arith)
 

@@ -1,20 +1,16 @@
 -- `digit` tests both ends of the range of digits.
-use mathlib.Core.Path.{_≡_, sym}
+use mathlib.Core.Path.{_≡_}
 use mathlib.Core.Bool.{true, false}
 use Rattle.graph.specs.Tests.{_upto_, _and_}
-use Rattle.graph.proofs.Truth.{and-no-left, →upto, →not-upto}
+use Rattle.graph.proofs.Truth.{→upto, →not-upto}
 use Rattle.text.specs.Finds.{is-digit}
 use Rattle.text.proofs.number.digit.Statement.{statement}
 use Rattle.text.proofs.number.digit.Tie as tie
-use Rattle.text.proofs.number.digit.Reads as reads
-use Rattle.text.proofs.number.digit.Lts as lts
 
--- src/number.rt:22:9
 returns : tie.Need-returns
 unfolding is-digit _and_
 returns c = let e : (48 upto c .before .args .b) ≡ false = →not-upto (c .if1 .taken) in rw e
 
--- src/number.rt:18:1
 returns-2 : tie.Need-returns-2
 unfolding is-digit _and_ _upto_
 returns-2 c = let e : (48 upto c .before .args .b) ≡ true = →upto (c .if1 .left) in rw e

@@ -1,10 +1,11 @@
+-- `number_at` meets its contract. At each turn the text from `at` on is the number so far in decimal, and then the text from `i` on.
 use borrow.Author.Needs.{needs}
 use native.Mathlib.Omega.{arith}
 use borrow.Author.Tests.{not-true, not-false}
-use mathlib.Core.Path.{_≡_, refl, sym, ap, _∙_}
+use mathlib.Core.Path.{_≡_, sym, _∙_}
 use mathlib.Core.Bool.{true}
-use mathlib.Core.List.{List, [], _∷_, _++_}
-use Prim.Native.Nat.{ℕ, suc, _+_, _-_, _*_, _≤_, _<_}
+use mathlib.Core.List.{_∷_, _++_}
+use Prim.Native.Nat.{_+_, _-_, _≤_}
 use lib.ListN.{length, getD, drop}
 use Rattle.text.specs.Decimal.{decimal}
 use Rattle.text.specs.Line.{largest}
@@ -13,9 +14,6 @@ use Rattle.text.proofs.Spelling.{is-digit→}
 use Rattle.text.proofs.Fronts.{→sayable, nothing-there, no-first-digit, first-digit, read-to, read-all, ends-early, other-byte, leading-zero, too-large, goes-on, ends-at}
 use Rattle.text.proofs.number.number_at.Statement.{statement}
 use Rattle.text.proofs.number.number_at.Tie as tie
-use Rattle.text.proofs.number.number_at.Reads as reads
-use Rattle.text.proofs.number.number_at.Lts as lts
-use Rattle.text.proofs.number.digit.Reads as digit-reads
 
 abbrev Inv-loop : tie.InvT-loop
 Inv-loop text at behind first value₀ i₀ value i =
@@ -24,118 +22,112 @@ Inv-loop text at behind first value₀ i₀ value i =
 abbrev μ-loop : tie.MeasureT-loop
 μ-loop text at behind first value₀ i₀ value i = length text - i
 
+-- where the function began, as a turn of the loop knows it
+abbrev start : tie.At-loop Inv-loop μ-loop → tie.Start Inv-loop μ-loop
+start c = c .before .before .before .before .before .before
+
 -- the first byte is a digit
 first-is : (c : tie.Else2 Inv-loop μ-loop) →
     let a = c .before .before .before .before .before .args in
     is-digit (getD (a .text .now) (a .at) 0) ≡ true
 first-is c = sym (c .before .digit .ensures) ∙ not-false _ (c .if2 .left)
 
--- the number that was read, and the byte behind it
+-- the number so far, and the byte behind it
 so-far : (c : tie.In-loop Inv-loop μ-loop) →
-    let a = c .before .before .before .before .before .before .before .args in
-    drop (a .at) (a .text .now) ≡ decimal (c .before .loop .value) ++ getD (a .text .now) (c .before .loop .i) 0 ∷ drop (c .before .loop .i + 1) (a .text .now)
+    let a = start (c .before) .args in
+    let l = c .before .loop in
+    drop (a .at) (a .text .now) ≡ decimal (l .value) ++ getD (a .text .now) (l .i) 0 ∷ drop (l .i + 1) (a .text .now)
 so-far c = read-to _ _ _ _ (c .loop-test .taken) (c .before .loop .inv .2)
+
+-- the turn, where that byte was asked about
+abbrev turn : tie.After-digit2 Inv-loop μ-loop → tie.In-loop Inv-loop μ-loop
+turn c = c .before .before .before
 
 -- that byte is a digit
 byte-is : (c : tie.Else4 Inv-loop μ-loop) →
-    let l = c .before .before .before .before .before in
-    is-digit (getD (l .before .before .before .before .before .before .args .text .now) (l .loop .i) 0) ≡ true
+    let l = turn (c .before) .before in
+    is-digit (getD (start l .args .text .now) (l .loop .i) 0) ≡ true
 byte-is c = sym (c .before .digit2 .ensures) ∙ not-false _ (c .if4 .left)
 
 returns : tie.Need-returns Inv-loop μ-loop
 returns c = nothing-there _ _ _ (c .if1 .taken)
 
--- src/number.rt:53:17
 shared-slice-read-first : tie.Need-shared-slice-read-first Inv-loop μ-loop
 shared-slice-read-first c = omega arith
 
--- src/number.rt:54:9
 digit-requires : tie.Need-digit-requires Inv-loop μ-loop
 digit-requires c κs = search needs
 
--- src/number.rt:55:9
 returns-2 : tie.Need-returns-2 Inv-loop μ-loop
 returns-2 c = no-first-digit _ _ _ (c .before .before .before .if1 .left) (sym (c .before .digit .ensures) ∙ not-true _ (c .if2 .taken))
 
--- src/number.rt:57:21
 cast-value : tie.Need-cast-value Inv-loop μ-loop
 cast-value c = omega (arith, is-digit→ _ (first-is c))
 
--- src/number.rt:57:21
 sub-value : tie.Need-sub-value Inv-loop μ-loop
 sub-value c = omega (arith, is-digit→ _ (first-is c))
 
--- src/number.rt:58:17
 add-i : tie.Need-add-i Inv-loop μ-loop
 add-i c = omega arith
 
--- src/number.rt:59:5
 loop-holds : tie.Need-loop-holds Inv-loop μ-loop
 loop-holds c = (omega arith, omega (arith, is-digit→ _ (first-is c)), first-digit _ _ (c .before .before .before .if1 .left) (first-is c))
 
--- src/number.rt:60:17
 shared-slice-read-b : tie.Need-shared-slice-read-b Inv-loop μ-loop
 shared-slice-read-b c = omega arith
 
--- src/number.rt:62:31
 cast-t17 : tie.Need-cast-t17 Inv-loop μ-loop
 cast-t17 c = omega arith
 
--- src/number.rt:62:45
 add-t18 : tie.Need-add-t18 Inv-loop μ-loop
 add-t18 c = omega arith
 
--- src/number.rt:62:13
 returns-3 : tie.Need-returns-3 Inv-loop μ-loop
 returns-3 c = (→sayable _ (c .before .before .before .loop .inv .1), omega arith, ends-at _ _ _ (so-far (c .before .before)) _ (c .if3 .taken))
 
--- src/number.rt:64:13
 digit-requires-2 : tie.Need-digit-requires-2 Inv-loop μ-loop
 digit-requires-2 c κs = search needs
 
--- src/number.rt:65:13
 returns-4 : tie.Need-returns-4 Inv-loop μ-loop
-returns-4 c = other-byte _ (c .before .before .before .before .before .before .before .before .before .before .before .pre) _ _ _ _ (so-far (c .before .before .before .before)) (c .before .before .if3 .left) (sym (c .before .digit2 .ensures) ∙ not-true _ (c .if4 .taken))
+returns-4 c =
+    let l = turn (c .before) in
+    other-byte _ (start (l .before) .pre) _ _ _ _ (so-far l) (c .before .before .if3 .left) (sym (c .before .digit2 .ensures) ∙ not-true _ (c .if4 .taken))
 
--- src/number.rt:68:13
 returns-5 : tie.Need-returns-5 Inv-loop μ-loop
-returns-5 c = leading-zero _ (c .before .before .before .before .before .before .before .before .before .before .before .before .pre) _ _ _ _ (so-far (c .before .before .before .before .before)) (c .if5 .taken) (byte-is (c .before))
+returns-5 c =
+    let l = turn (c .before .before) in
+    leading-zero _ (start (l .before) .pre) _ _ _ _ (so-far l) (c .if5 .taken) (byte-is (c .before))
 
--- src/number.rt:70:17
 mul-value : tie.Need-mul-value Inv-loop μ-loop
 mul-value c = omega arith
 
--- src/number.rt:70:31
 cast-value-2 : tie.Need-cast-value-2 Inv-loop μ-loop
 cast-value-2 c = omega (arith, is-digit→ _ (byte-is (c .before)))
 
--- src/number.rt:70:31
 sub-value-2 : tie.Need-sub-value-2 Inv-loop μ-loop
 sub-value-2 c = omega (arith, is-digit→ _ (byte-is (c .before)))
 
--- src/number.rt:70:17
 add-value : tie.Need-add-value Inv-loop μ-loop
 add-value c = omega (arith, is-digit→ _ (byte-is (c .before)))
 
--- src/number.rt:72:13
 returns-6 : tie.Need-returns-6 Inv-loop μ-loop
-returns-6 c = too-large _ (c .before .before .before .before .before .before .before .before .before .before .before .before .before .pre) _ _ _ _ (so-far (c .before .before .before .before .before .before)) (byte-is (c .before .before)) (c .if6 .taken)
+returns-6 c =
+    let l = turn (c .before .before .before) in
+    too-large _ (start (l .before) .pre) _ _ _ _ (so-far l) (byte-is (c .before .before)) (c .if6 .taken)
 
--- src/number.rt:74:9
 add-i-2 : tie.Need-add-i-2 Inv-loop μ-loop
 add-i-2 c = omega arith
 
--- src/number.rt:59:5
 loop-less : tie.Need-loop-less Inv-loop μ-loop
 loop-less c = omega arith
 
--- src/number.rt:59:5
 loop-again : tie.Need-loop-again Inv-loop μ-loop
-loop-again c = (omega arith, c .if6 .left, goes-on _ _ _ (so-far (c .before .before .before .before .before .before)) (omega arith) (byte-is (c .before .before)))
+loop-again c =
+    let l = turn (c .before .before .before) in
+    (omega arith, c .if6 .left, goes-on _ _ _ (so-far l) (omega arith) (byte-is (c .before .before)))
 
--- src/number.rt:46:1
 returns-7 : tie.Need-returns-7 Inv-loop μ-loop
-returns-7 c = ends-early _ (c .before .before .before .before .before .before .before .pre) _ _ (read-all _ _ _ _ (c .loop-test .left) (c .before .loop .inv .2))
+returns-7 c = ends-early _ (start (c .before) .pre) _ _ (read-all _ _ _ _ (c .loop-test .left) (c .before .loop .inv .2))
 
 pub number-at-spec : {M : Type 1} → statement M
 number-at-spec =
