@@ -5,10 +5,11 @@ use mathlib.Core.List.{List, [], _∷_, _++_, append-nil, append-assoc}
 use Prim.Native.Nat.{ℕ, suc, _+_, _*_, _≤_}
 use native.Mathlib.Omega.{arith}
 use native.Mathlib.Numerals.{add-one}
-use lib.ListN.{length, take, drop, length-append}
+use lib.ListN.{length, drop, length-append}
 use lib.Seq.{take-at, drop-append-add, drop-drop}
 use Rattle.text.specs.Line.{line, sayable-step}
 use Rattle.text.specs.Text.{lines, Steps, no-step, a-step}
+use Rattle.text.specs.Put.{put-at}
 use Rattle.text.specs.Finds.{FindsLine, kept, Passes}
 use Rattle.text.specs.declared.line.Line.the-variants.{At}
 use Rattle.text.specs.declared.line.Lines.the-variants.{To}
@@ -65,13 +66,12 @@ pub gone-nowhere : (text : List ℕ) (at : ℕ) (keep : Bool) (before : List ℕ
 gone-nowhere text at keep before =
     record { log = []; each = no-step; over = sym (ap (λ (u : List ℕ). u ++ drop at text) (lines-none [])); holds = kept-none keep before }
 
--- the numbers of a step put behind those of the log
-kept-last : (log four before : List ℕ) (i : ℕ) → length log ≡ 4 * i → length four ≡ 4
-    → take (4 * i) (kept true log before) ++ four ++ drop (4 * i + 4) (kept true log before) ≡ kept true (log ++ four) before
-unfolding kept
-kept-last log four before i e f =
-    rw (take-at log (drop (length log) before) (4 * i) e)
-    (rw (sym e, drop-append-add log (drop (length log) before) 4, drop-drop 4 (length log) before, length-append log four, f) refl)
+-- numbers put behind those of the log
+kept-more : (log w before : List ℕ) (at : ℕ) → length log ≡ at → put-at at w (kept true log before) ≡ kept true (log ++ w) before
+unfolding kept put-at
+kept-more log w before at e =
+    rw (take-at log (drop (length log) before) at e)
+    (rw (sym e, drop-append-add log (drop (length log) before) (length w), drop-drop (length w) (length log) before, length-append log w) refl)
 
 -- one line more: its step is kept, or not
 module _ {text : List ℕ} {at : ℕ} {before : List ℕ} {i place : ℕ} {buffer : List ℕ} (k t x s next : ℕ) (f : FindsLine text place (At k t x s next)) where
@@ -88,7 +88,7 @@ module _ {text : List ℕ} {at : ℕ} {before : List ℕ} {i place : ℕ} {buffe
   gone-on {keep = false} buffer′ e b g =
       record { log = g .log ++ four k t x s; each = steps-last k t x s (g .each) (f .0); over = more-over g; holds = b ∙ g .holds }
 
-  pub gone-on-keeping : {keep : Bool} (buffer′ : List ℕ) → keep ≡ true → buffer′ ≡ take (4 * i) buffer ++ four k t x s ++ drop (4 * i + 4) buffer
+  pub gone-on-keeping : {keep : Bool} (buffer′ : List ℕ) → keep ≡ true → buffer′ ≡ put-at (4 * i) (four k t x s) buffer
       → Gone text at keep before i place buffer → Gone text at keep before (i + 1) next buffer′
   gone-on-keeping {keep = true} buffer′ e b g =
       record {
@@ -97,8 +97,8 @@ module _ {text : List ℕ} {at : ℕ} {before : List ℕ} {i place : ℕ} {buffe
         over = more-over g;
         holds =
             b
-            ∙ ap (λ (u : List ℕ). take (4 * i) u ++ four k t x s ++ drop (4 * i + 4) u) (g .holds)
-            ∙ kept-last (g .log) (four k t x s) before i (steps-length (g .each)) refl;
+            ∙ ap (put-at (4 * i) (four k t x s)) (g .holds)
+            ∙ kept-more (g .log) (four k t x s) before (4 * i) (steps-length (g .each));
       }
   gone-on-keeping {keep = false} buffer′ e b g = let z : _≡_ {A = ℕ} 0 1 = cc in absurd (omega arith)
 

@@ -1,4 +1,4 @@
--- Bytes as numbers: a quoted text is the bytes that it is written with.
+-- Bytes, each a number: a quoted text as the codes of its characters, which are all ASCII.
 use mathlib.Core.List.{List, [], _∷_}
 use Prim.Native.Nat.{ℕ}
 use Prim.Native.Char.{code}

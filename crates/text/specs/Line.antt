@@ -10,7 +10,7 @@ use Rattle.text.specs.Decimal.{decimal}
 abbrev pub largest : ℕ
 largest = 65535
 
--- the word of each kind
+-- the word of each kind, 1 to 5
 unfoldable pub word : ℕ → List ℕ
 word k =
     if k is 1 then bytes "begin"
@@ -39,10 +39,11 @@ line k t x s =
     ++ item (bytes "obj=") (decimal x) blank
     ++ item (bytes "from=") (decimal s) line-end
 
--- a number that a text can say, and a kind that has a word
+-- a number that a line can say
 unfoldable pub sayable : ℕ → Bool
 sayable n = n upto largest
 
+-- a kind that has a word
 unfoldable pub has-word : ℕ → Bool
 has-word k = 1 upto k and k upto 5
 

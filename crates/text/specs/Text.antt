@@ -12,6 +12,7 @@ unfoldable pub lines : ℕ → List ℕ → List ℕ
 lines zero log = []
 lines (suc n) log = line (kind log 0) (tx log 0) (obj log 0) (src log 0) ++ lines n (drop 4 log)
 
+-- the text of a log
 unfoldable pub text-of : List ℕ → List ℕ
 text-of log = header (steps log) ++ lines (steps log) log
 

@@ -1,9 +1,10 @@
 // The lines of steps in a text.
 ghost use mathlib.Core.Path.{_≡_};
-ghost use mathlib.Core.List.{[], _∷_, _++_};
+ghost use mathlib.Core.List.{[], _∷_};
 ghost use Prim.Native.Nat.{_+_, _*_, _≤_};
-ghost use lib.ListN.{length, take, drop};
+ghost use lib.ListN.{length};
 ghost use Rattle.text.specs.Line.{op, has-word};
+ghost use Rattle.text.specs.Put.{put-at};
 ghost use Rattle.text.specs.Finds.{Finds, FindsLine, Passes};
 use crate::number::Number;
 use crate::number::item_at;
@@ -67,7 +68,7 @@ fn line_at(text: &[u8], at: usize) -> Line
 // Puts the numbers of step i in the buffer.
 fn put_step(steps: &mut [u16], i: usize, k: u16, t: u16, x: u16, s: u16)
     requires { ⌜ 4 * i + 4 ≤ length (now steps) ⌝ }
-    ensures { λ _. ⌜ now (steps .exit) ≡ take (4 * i) (now (steps .entry)) ++ k ∷ t ∷ x ∷ s ∷ [] ++ drop (4 * i + 4) (now (steps .entry)) ⌝ }
+    ensures { λ _. ⌜ now (steps .exit) ≡ put-at (4 * i) (k ∷ t ∷ x ∷ s ∷ []) (now (steps .entry)) ⌝ }
 {
     let a = 4 * i;
     steps[a] = k;

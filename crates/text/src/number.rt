@@ -15,7 +15,7 @@ pub enum Number {
 }
 
 // Whether b is a digit.
-fn digit(b: u8) -> bool
+fn is_digit(b: u8) -> bool
     ensures { λ r. ⌜ r ≡ is-digit b ⌝ }
 {
     if b < b'0' {
@@ -51,23 +51,23 @@ fn number_at(text: &[u8], at: usize, behind: u8) -> Number
         return Number::Bad;
     }
     let first = text[at];
-    if !digit(first) {
+    if !is_digit(first) {
         return Number::Bad;
     }
-    let mut value = first as usize - 48;
+    let mut value = (first - b'0') as usize;
     let mut i = at + 1;
     while i < text.len() {
         let b = text[i];
         if b == behind {
             return Number::At(value as u16, i + 1);
         }
-        if !digit(b) {
+        if !is_digit(b) {
             return Number::Bad;
         }
         if value == 0 {
             return Number::Bad;
         }
-        value = 10 * value + (b as usize - 48);
+        value = 10 * value + (b - b'0') as usize;
         if 65535 < value {
             return Number::Bad;
         }

@@ -2,16 +2,18 @@
 use borrow.Author.Needs.{needs}
 use native.Mathlib.Omega.{arith}
 use mathlib.Core.Path.{_≡_}
-use mathlib.Core.List.{List, [], _∷_, _++_}
+use mathlib.Core.List.{List, [], _∷_}
 use Prim.Native.Nat.{ℕ, suc, _+_, _*_, _≤_}
-use lib.ListN.{length, take, drop, set, length-set}
+use lib.ListN.{length, set, length-set}
 use lib.Seq.{sets-eq}
+use Rattle.text.specs.Put.{put-at}
 use Rattle.text.proofs.line.put_step.Statement.{statement}
 use Rattle.text.proofs.line.put_step.Tie as tie
 
 -- four stores, one after another
 four-stores : (l : List ℕ) (a k t x s : ℕ) → a + 4 ≤ length l
-    → set (set (set (set l a k) (a + 1) t) (a + 2) x) (a + 3) s ≡ take a l ++ k ∷ t ∷ x ∷ s ∷ [] ++ drop (a + 4) l
+    → set (set (set (set l a k) (a + 1) t) (a + 2) x) (a + 3) s ≡ put-at a (k ∷ t ∷ x ∷ s ∷ []) l
+unfolding put-at
 four-stores l a k t x s h =
     let p : a + 1 ≡ suc a = omega arith in
     let q : a + 2 ≡ suc (suc a) = omega arith in

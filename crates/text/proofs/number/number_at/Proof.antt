@@ -30,7 +30,7 @@ start c = c .before .before .before .before .before .before
 first-is : (c : tie.Else2 Inv-loop μ-loop) →
     let a = c .before .before .before .before .before .args in
     is-digit (getD (a .text .now) (a .at) 0) ≡ true
-first-is c = sym (c .before .digit .ensures) ∙ not-false _ (c .if2 .left)
+first-is c = sym (c .before .is-digit .ensures) ∙ not-false _ (c .if2 .left)
 
 -- the number so far, and the byte behind it
 so-far : (c : tie.In-loop Inv-loop μ-loop) →
@@ -40,14 +40,14 @@ so-far : (c : tie.In-loop Inv-loop μ-loop) →
 so-far c = read-to _ _ _ _ (c .loop-test .taken) (c .before .loop .inv .2)
 
 -- the turn, where that byte was asked about
-abbrev turn : tie.After-digit2 Inv-loop μ-loop → tie.In-loop Inv-loop μ-loop
+abbrev turn : tie.After-is-digit2 Inv-loop μ-loop → tie.In-loop Inv-loop μ-loop
 turn c = c .before .before .before
 
 -- that byte is a digit
 byte-is : (c : tie.Else4 Inv-loop μ-loop) →
     let l = turn (c .before) .before in
     is-digit (getD (start l .args .text .now) (l .loop .i) 0) ≡ true
-byte-is c = sym (c .before .digit2 .ensures) ∙ not-false _ (c .if4 .left)
+byte-is c = sym (c .before .is-digit2 .ensures) ∙ not-false _ (c .if4 .left)
 
 returns : tie.Need-returns Inv-loop μ-loop
 returns c = nothing-there _ _ _ (c .if1 .taken)
@@ -55,17 +55,17 @@ returns c = nothing-there _ _ _ (c .if1 .taken)
 shared-slice-read-first : tie.Need-shared-slice-read-first Inv-loop μ-loop
 shared-slice-read-first c = omega arith
 
-digit-requires : tie.Need-digit-requires Inv-loop μ-loop
-digit-requires c κs = search needs
+is-digit-requires : tie.Need-is-digit-requires Inv-loop μ-loop
+is-digit-requires c κs = search needs
 
 returns-2 : tie.Need-returns-2 Inv-loop μ-loop
-returns-2 c = no-first-digit _ _ _ (c .before .before .before .if1 .left) (sym (c .before .digit .ensures) ∙ not-true _ (c .if2 .taken))
-
-cast-value : tie.Need-cast-value Inv-loop μ-loop
-cast-value c = omega (arith, is-digit→ _ (first-is c))
+returns-2 c = no-first-digit _ _ _ (c .before .before .before .if1 .left) (sym (c .before .is-digit .ensures) ∙ not-true _ (c .if2 .taken))
 
 sub-value : tie.Need-sub-value Inv-loop μ-loop
 sub-value c = omega (arith, is-digit→ _ (first-is c))
+
+cast-value : tie.Need-cast-value Inv-loop μ-loop
+cast-value c = omega (arith, is-digit→ _ (first-is c))
 
 add-i : tie.Need-add-i Inv-loop μ-loop
 add-i c = omega arith
@@ -85,13 +85,13 @@ add-t18 c = omega arith
 returns-3 : tie.Need-returns-3 Inv-loop μ-loop
 returns-3 c = (→sayable _ (c .before .before .before .loop .inv .1), omega arith, ends-at _ _ _ (so-far (c .before .before)) _ (c .if3 .taken))
 
-digit-requires-2 : tie.Need-digit-requires-2 Inv-loop μ-loop
-digit-requires-2 c κs = search needs
+is-digit-requires-2 : tie.Need-is-digit-requires-2 Inv-loop μ-loop
+is-digit-requires-2 c κs = search needs
 
 returns-4 : tie.Need-returns-4 Inv-loop μ-loop
 returns-4 c =
     let l = turn (c .before) in
-    other-byte _ (start (l .before) .pre) _ _ _ _ (so-far l) (c .before .before .if3 .left) (sym (c .before .digit2 .ensures) ∙ not-true _ (c .if4 .taken))
+    other-byte _ (start (l .before) .pre) _ _ _ _ (so-far l) (c .before .before .if3 .left) (sym (c .before .is-digit2 .ensures) ∙ not-true _ (c .if4 .taken))
 
 returns-5 : tie.Need-returns-5 Inv-loop μ-loop
 returns-5 c =
@@ -101,11 +101,11 @@ returns-5 c =
 mul-value : tie.Need-mul-value Inv-loop μ-loop
 mul-value c = omega arith
 
-cast-value-2 : tie.Need-cast-value-2 Inv-loop μ-loop
-cast-value-2 c = omega (arith, is-digit→ _ (byte-is (c .before)))
-
 sub-value-2 : tie.Need-sub-value-2 Inv-loop μ-loop
 sub-value-2 c = omega (arith, is-digit→ _ (byte-is (c .before)))
+
+cast-value-2 : tie.Need-cast-value-2 Inv-loop μ-loop
+cast-value-2 c = omega (arith, is-digit→ _ (byte-is (c .before)))
 
 add-value : tie.Need-add-value Inv-loop μ-loop
 add-value c = omega (arith, is-digit→ _ (byte-is (c .before)))
@@ -137,22 +137,22 @@ number-at-spec =
     μ-loop
     returns
     shared-slice-read-first
-    digit-requires
+    is-digit-requires
     returns-2
-    cast-value
     sub-value
+    cast-value
     add-i
     loop-holds
     shared-slice-read-b
     cast-t17
     add-t18
     returns-3
-    digit-requires-2
+    is-digit-requires-2
     returns-4
     returns-5
     mul-value
-    cast-value-2
     sub-value-2
+    cast-value-2
     add-value
     returns-6
     add-i-2
