@@ -51,9 +51,8 @@ module _ (text : List ℕ) (at n : ℕ) (head : text ≡ header n ++ drop at tex
       → ReadsCall (Reading text) text buffer (read-answer.Refused 16 (n + 1)) buffer′
   unfolding kept
   extra-bytes next p h =
-      away text buffer 16 (n + 1)
-      (rw (add-one n) (extra n (getD text next 0) (p .0) (drop (next + 1) text) few (p .1) (behind-header n (p .0) _ (p .3 ∙ ap (λ (u : List ℕ). lines n (p .0) ++ u) (one-byte text next h)))))
-      (p .4)
+      let e : drop at text ≡ lines n (p .0) ++ getD text next 0 ∷ drop (next + 1) text = p .3 ∙ ap (λ (u : List ℕ). lines n (p .0) ++ u) (one-byte text next h) in
+      away text buffer 16 (n + 1) (rw (add-one n) (extra n (getD text next 0) (p .0) (drop (next + 1) text) few (p .1) (behind-header n (p .0) _ e))) (p .4)
 
   -- a second pass over lines that are all in form goes over the same log
   again : {log : List ℕ} (rest buffer₁ buffer₂ : List ℕ) (r : Lines) → Steps n log → drop at text ≡ lines n log ++ rest → Passes text at n true buffer₁ r buffer₂
@@ -93,4 +92,5 @@ module _ (text : List ℕ) (at n : ℕ) (head : text ≡ header n ++ drop at tex
       ∙ sym (text-parts s)
       in
       let says : Says text log = record { n = n; few = few; each = s; whole = w } in
-      answered log (in-form log says) says (ap read-answer.Steps (sym (steps-count s))) (ap (λ (u : List ℕ). u ∷ []) (e ∙ filled buffer₁ buffer₂ s size (again (drop next text) buffer₁ buffer₂ r s (p .3) q)))
+      let f : buffer₂ ≡ kept true log buffer₁ = again (drop next text) buffer₁ buffer₂ r s (p .3) q in
+      answered log (in-form log says) says (ap read-answer.Steps (sym (steps-count s))) (ap (λ (u : List ℕ). u ∷ []) (e ∙ filled buffer₁ buffer₂ s size f))

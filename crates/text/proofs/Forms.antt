@@ -27,7 +27,10 @@ op-free a b x y p q e =
 
 pub item-free : (key : List ℕ) (behind : ℕ) → is-digit behind ≡ false → Free (λ (n : ℕ). item key (decimal n) behind) sayable
 item-free key behind apart a b x y p q e =
-    go (decimal-beyond a b behind (behind ∷ x) y apart (sym (tail a x) ∙ same-front key _ _ (sym (item-front key (decimal a) behind x) ∙ e ∙ item-front key (decimal b) behind y) ∙ tail b y))
+    let f : decimal a ++ behind ∷ [] ++ x ≡ decimal b ++ behind ∷ [] ++ y =
+    same-front key _ _ (sym (item-front key (decimal a) behind x) ∙ e ∙ item-front key (decimal b) behind y)
+    in
+    go (decimal-beyond a b behind (behind ∷ x) y apart (sym (tail a x) ∙ f ∙ tail b y))
   where
     tail : (n : ℕ) (z : List ℕ) → decimal n ++ behind ∷ [] ++ z ≡ decimal n ++ behind ∷ z
     tail n z = append-assoc (decimal n) (behind ∷ []) z

@@ -80,10 +80,13 @@ no-digit behind bytes f n rest s h =
     f (l .b) ((l .rest ++ behind ∷ []) ++ rest) (h ∙ ap (λ (u : List ℕ). (u ++ behind ∷ []) ++ rest) (l .is)) (l .a-digit)
 
 pub nothing-there : (behind : ℕ) (text : List ℕ) (at : ℕ) → length text ≤ at → NoNumber behind (drop at text)
-nothing-there behind text at h = no-digit behind (drop at text) (λ (b : ℕ) (y : List ℕ) (e : drop at text ≡ b ∷ y) (d : is-digit b ≡ true). none b y (sym (drop-of-length-le text h) ∙ e))
+nothing-there behind text at h = no-digit behind (drop at text) go
   where
-    none : (b : ℕ) (y : List ℕ) → [] ≡ b ∷ y → ⊥
-    none b y e = let z : _≡_ {A = ℕ} 0 1 = cc in omega arith
+    go : (b : ℕ) (y : List ℕ) → drop at text ≡ b ∷ y → is-digit b ≡ true → ⊥
+    go b y e d =
+        let f : [] ≡ b ∷ y = sym (drop-of-length-le text h) ∙ e in
+        let z : _≡_ {A = ℕ} 0 1 = cc in
+        omega arith
 
 pub no-first-digit : (behind : ℕ) (text : List ℕ) (at : ℕ) → at < length text → is-digit (getD text at 0) ≡ false → NoNumber behind (drop at text)
 no-first-digit behind text at h f = no-digit behind (drop at text) go

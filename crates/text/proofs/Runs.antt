@@ -82,7 +82,8 @@ module _ {text : List ℕ} {at : ℕ} {before : List ℕ} {i place : ℕ} {buffe
       ∙ sym (append-assoc (lines i (g .log)) (line k t x s) (drop next text))
       ∙ ap (λ (u : List ℕ). u ++ drop next text) (sym (lines-last k t x s (g .each)))
 
-  pub gone-on : {keep : Bool} (buffer′ : List ℕ) → keep ≡ false → buffer′ ≡ buffer → Gone text at keep before i place buffer → Gone text at keep before (i + 1) next buffer′
+  pub gone-on : {keep : Bool} (buffer′ : List ℕ) → keep ≡ false → buffer′ ≡ buffer
+      → Gone text at keep before i place buffer → Gone text at keep before (i + 1) next buffer′
   unfolding kept
   gone-on {keep = true} buffer′ e b g = let z : _≡_ {A = ℕ} 0 1 = cc in absurd (omega arith)
   gone-on {keep = false} buffer′ e b g =

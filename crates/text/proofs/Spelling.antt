@@ -167,7 +167,8 @@ decimal-beyond v n e y r f h = go (z .0) (z .1) (z .2)
 
     positive : (b : ℕ) (z : List ℕ) → decimal n ≡ decimal v ++ b ∷ z → 0 < v
     positive b z k =
-        ⊎-elim below→ (λ (c : (0 below v) ≡ false). let i : v ≡ 0 = omega (arith, not-below→ c) in absurd (no-leading-zero n b z (k ∙ ap (λ (u : ℕ). decimal u ++ b ∷ z) i)))
+        ⊎-elim below→
+        (λ (c : (0 below v) ≡ false). let i : v ≡ 0 = omega (arith, not-below→ c) in absurd (no-leading-zero n b z (k ∙ ap (λ (u : ℕ). decimal u ++ b ∷ z) i)))
         (decide (0 below v))
 
     go : (z : List ℕ) → decimal n ≡ decimal v ++ z → y ≡ z ++ e ∷ r → Beyond v n e y r

@@ -23,7 +23,8 @@ unfolding zeros
 no-zeros l from = let e : from - from ≡ 0 = omega arith in rw (e, append-nil) refl
 
 -- one entry more
-one-zero : (l v : List ℕ) (from i : ℕ) → i < length l → from ≤ i → take i l ≡ take from v ++ zeros (i - from) → take (i + 1) (set l i 0) ≡ take from v ++ zeros (i + 1 - from)
+one-zero : (l v : List ℕ) (from i : ℕ) → i < length l → from ≤ i → take i l ≡ take from v ++ zeros (i - from)
+    → take (i + 1) (set l i 0) ≡ take from v ++ zeros (i + 1 - from)
 unfolding zeros
 one-zero l v from i h k e =
     let n : suc i - from ≡ i - from + 1 = omega arith in

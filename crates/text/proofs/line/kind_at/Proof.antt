@@ -9,6 +9,22 @@ use Rattle.text.proofs.Words.{begin, read, write, commit, abort, op-sta
 use Rattle.text.proofs.line.kind_at.Statement.{statement}
 use Rattle.text.proofs.line.kind_at.Tie as tie
 
+-- where the function began, as each test knows it, and the test before
+abbrev start : tie.After-stands → tie.Start
+start c = c .before .before .before
+
+abbrev first : tie.After-stands2 → tie.Else1
+first c = c .before .before
+
+abbrev second : tie.After-stands3 → tie.Else2
+second c = c .before .before
+
+abbrev third : tie.After-stands4 → tie.Else3
+third c = c .before .before
+
+abbrev fourth : tie.After-stands5 → tie.Else4
+fourth c = c .before .before
+
 slice-aggregate-stands : tie.Need-slice-aggregate-stands
 slice-aggregate-stands c = search needs
 
@@ -21,7 +37,7 @@ add-t11 c = search needs
 returns : tie.Need-returns
 unfolding op item word bytes _is_ if_then_else_
 returns c =
-    let a = c .before .before .before .before in
+    let a = start (c .before) in
     op-stands (a .args .text .now) (a .args .at) begin (a .pre) (sym (c .before .stands .ensures) ∙ c .if1 .taken)
 
 slice-aggregate-stands-2 : tie.Need-slice-aggregate-stands-2
@@ -36,7 +52,7 @@ add-t15 c = search needs
 returns-2 : tie.Need-returns-2
 unfolding op item word bytes _is_ if_then_else_
 returns-2 c =
-    let a = c .before .before .before .before .before .before .before in
+    let a = start (first (c .before) .before) in
     op-stands (a .args .text .now) (a .args .at) read (a .pre) (sym (c .before .stands2 .ensures) ∙ c .if2 .taken)
 
 slice-aggregate-stands-3 : tie.Need-slice-aggregate-stands-3
@@ -51,7 +67,7 @@ add-t19 c = search needs
 returns-3 : tie.Need-returns-3
 unfolding op item word bytes _is_ if_then_else_
 returns-3 c =
-    let a = c .before .before .before .before .before .before .before .before .before .before in
+    let a = start (first (second (c .before) .before) .before) in
     op-stands (a .args .text .now) (a .args .at) write (a .pre) (sym (c .before .stands3 .ensures) ∙ c .if3 .taken)
 
 slice-aggregate-stands-4 : tie.Need-slice-aggregate-stands-4
@@ -66,7 +82,7 @@ add-t23 c = search needs
 returns-4 : tie.Need-returns-4
 unfolding op item word bytes _is_ if_then_else_
 returns-4 c =
-    let a = c .before .before .before .before .before .before .before .before .before .before .before .before .before in
+    let a = start (first (second (third (c .before) .before) .before) .before) in
     op-stands (a .args .text .now) (a .args .at) commit (a .pre) (sym (c .before .stands4 .ensures) ∙ c .if4 .taken)
 
 slice-aggregate-stands-5 : tie.Need-slice-aggregate-stands-5
@@ -81,18 +97,22 @@ add-t27 c = search needs
 returns-5 : tie.Need-returns-5
 unfolding op item word bytes _is_ if_then_else_
 returns-5 c =
-    let a = c .before .before .before .before .before .before .before .before .before .before .before .before .before .before .before .before in
+    let a = start (first (second (third (fourth (c .before) .before) .before) .before) .before) in
     op-stands (a .args .text .now) (a .args .at) abort (a .pre) (sym (c .before .stands5 .ensures) ∙ c .if5 .taken)
 
 returns-6 : tie.Need-returns-6
 unfolding op item word bytes _is_ if_then_else_
 returns-6 c =
-    let a = c .before .before .before .before .before .before .before .before .before .before .before .before .before .before .before .before in
+    let e4 = fourth (c .before) in
+    let e3 = third (e4 .before) in
+    let e2 = second (e3 .before) in
+    let e1 = first (e2 .before) in
+    let a = start (e1 .before) in
     no-kind (drop (a .args .at) (a .args .text .now))
-    (sym (c .before .before .before .before .before .before .before .before .before .before .before .before .before .stands .ensures) ∙ c .before .before .before .before .before .before .before .before .before .before .before .before .if1 .left)
-    (sym (c .before .before .before .before .before .before .before .before .before .before .stands2 .ensures) ∙ c .before .before .before .before .before .before .before .before .before .if2 .left)
-    (sym (c .before .before .before .before .before .before .before .stands3 .ensures) ∙ c .before .before .before .before .before .before .if3 .left)
-    (sym (c .before .before .before .before .stands4 .ensures) ∙ c .before .before .before .if4 .left)
+    (sym (e1 .before .stands .ensures) ∙ e1 .if1 .left)
+    (sym (e2 .before .stands2 .ensures) ∙ e2 .if2 .left)
+    (sym (e3 .before .stands3 .ensures) ∙ e3 .if3 .left)
+    (sym (e4 .before .stands4 .ensures) ∙ e4 .if4 .left)
     (sym (c .before .stands5 .ensures) ∙ c .if5 .left)
 
 pub kind-at-spec : {M : Type 1} → statement M
