@@ -4,6 +4,7 @@ use mathlib.Core.Bool.{true, false}
 use mathlib.Core.List.{List, _++_}
 use mathlib.Core.Logic.{_⊎_, inl, inr}
 use Prim.Native.Nat.{ℕ, _+_, _-_, _≤_}
+use Prim.Native.Char.{code}
 use native.Mathlib.Omega.{arith}
 use lib.ListN.{length, getD, drop}
 use Rattle.graph.specs.Tests.{_is_, _upto_, _and_, if_then_else_}
@@ -42,7 +43,7 @@ kind-of k h = go (decide (k is 1)) (decide (k is 2)) (decide (k is 3)) (decide (
 
 -- each kind is told by the first letter of its word, which is the fourth byte
 letter : ℕ → ℕ
-letter b = if b is 98 then 1 else if b is 114 then 2 else if b is 119 then 3 else if b is 99 then 4 else 5
+letter b = if b is code "b" then 1 else if b is code "r" then 2 else if b is code "w" then 3 else if b is code "c" then 4 else 5
 
 letter-of : {k : ℕ} → Kind k → (rest : List ℕ) → letter (getD (op k ++ rest) 3 0) ≡ k
 unfolding letter op item word bytes _is_ if_then_else_
