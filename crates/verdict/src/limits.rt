@@ -19,6 +19,9 @@ impl Transaction {
     // How many entries a table has that has one for each transaction and one for writer 0.
     pub const TABLE: usize = Transaction::LIMIT as usize + 1;
 
+    // How many committed transactions the exact search takes.
+    pub const SEARCHED: usize = 8;
+
     // How many entries a table has that has one for each of these and each object.
     pub const PAIRS: usize = Transaction::TABLE * Object::TABLE;
 

@@ -5,10 +5,11 @@ use crate::walk::index;
 use crate::walk::seen;
 use crate::walk::writes_within;
 ghost use mathlib.Core.Path.{_≡_};
-ghost use Prim.Native.Nat.{suc, _≤_, _<_, _+_, _*_};
+ghost use mathlib.Core.Bool.{true};
+ghost use Prim.Native.Nat.{ℕ, suc, _≤_, _<_, _+_, _*_};
 ghost use lib.ListN.{length, getD, take};
 ghost use Rattle.graph.specs.Tests.{_is_, _and_, fails, every, count, if_then_else_};
-ghost use Rattle.verdict.specs.Limits.{transactions, objects};
+ghost use Rattle.verdict.specs.Limits.{transactions, objects, most-searched};
 ghost use Rattle.verdict.specs.Log.{steps, committed, writer};
 ghost use Rattle.verdict.specs.Refusal.{taken, log-refusal};
 ghost use Rattle.verdict.specs.Clean.{is-clean, judged-other};
@@ -74,9 +75,11 @@ pub fn committed_marks(log: &[u16]) -> [u8; Transaction::TABLE]
     let mut marks = [0u8; Transaction::TABLE];
     let mut t: u16 = 0;
     while t <= Transaction::LIMIT {
+        let mut e: u8 = 0;
         if seen(log, n, 4, t) {
-            marks[t as usize] = 1;
+            e = 1;
         }
+        marks[t as usize] = e;
         t += 1;
     }
     marks
@@ -105,9 +108,11 @@ fn need_table(log: &[u16], marks: &[u8; Transaction::TABLE]) -> [u16; Transactio
     let mut table = [0u16; Transaction::PAIRS];
     let mut k: usize = 0;
     while k < Transaction::PAIRS {
+        let mut e: u16 = 0;
         if marks[k / Object::TABLE] != 0 {
-            table[k] = needed(log, (k / Object::TABLE) as u16, (k % Object::TABLE) as u16);
+            e = needed(log, (k / Object::TABLE) as u16, (k % Object::TABLE) as u16);
         }
+        table[k] = e;
         k += 1;
     }
     table
@@ -122,12 +127,106 @@ fn write_table(log: &[u16], marks: &[u8; Transaction::TABLE]) -> [u8; Transactio
     let mut table = [0u8; Transaction::PAIRS];
     let mut k: usize = 0;
     while k < Transaction::PAIRS {
+        let mut e: u8 = 0;
         if marks[k / Object::TABLE] != 0 {
             if writes_within(log, 0, n, (k / Object::TABLE) as u16, (k % Object::TABLE) as u16) {
-                table[k] = 1;
+                e = 1;
             }
         }
+        table[k] = e;
         k += 1;
     }
     table
+}
+
+// Whether what is last written of each object is what t needs to find.
+fn fits(need: &[u16; Transaction::PAIRS], last: &[u16; Object::TABLE], t: u16) -> bool
+    requires { ⌜ t ≤ transactions ⌝ }
+    ensures { λ r. ⌜ r ≡ every objects (λ x. allows (getD (now (need .entry)) (t * objects + x) 0) (getD (now (last .entry)) x 0)) ⌝ }
+{
+    let row = index(t) * Object::TABLE;
+    let mut x: usize = 0;
+    while x < Object::TABLE {
+        let e = need[row + x];
+        let v = last[x];
+        if e != 0 {
+            if e - 1 != v {
+                return false;
+            }
+        }
+        x += 1;
+    }
+    true
+}
+
+// What is last written of each object when t has run.
+fn after(writes: &[u8; Transaction::PAIRS], last: [u16; Object::TABLE], t: u16) -> [u16; Object::TABLE]
+    requires { ⌜ t ≤ transactions ⌝ }
+    ensures { λ r. ⌜ ((x : ℕ) → x < objects
+        → getD r x 0 ≡ (if fails (getD (now (writes .entry)) (t * objects + x) 0 is 0) then t else getD last x 0)) ⌝ }
+{
+    let row = index(t) * Object::TABLE;
+    let mut next = [0u16; Object::TABLE];
+    let mut x: usize = 0;
+    while x < Object::TABLE {
+        let mut v = last[x];
+        if writes[row + x] != 0 {
+            v = t;
+        }
+        next[x] = v;
+        x += 1;
+    }
+    next
+}
+
+// What a search finds: whether there is an order, and the order.
+struct Search {
+    found: bool,
+    order: [u16; Transaction::SEARCHED],
+}
+
+// The first order that explains loosely and begins with the first `at` placed; `left` more are to be placed.
+fn place(
+    log: &[u16],
+    need: &[u16; Transaction::PAIRS],
+    writes: &[u8; Transaction::PAIRS],
+    free: [u8; Transaction::TABLE],
+    last: [u16; Object::TABLE],
+    placed: [u16; Transaction::SEARCHED],
+    at: usize,
+    left: usize,
+) -> Search
+    requires { ⌜ (log-refusal (now log) ≡ taken) × (is-clean (now log) ≡ true) × Needs (now log) (now need) × Writes (now log) (now writes)
+        × (at + left ≤ most-searched) × (left ≡ count (suc transactions) (λ t. fails (getD free t 0 is 0)))
+        × Placed (now log) (take at placed) free last ⌝ }
+    ensures { λ r. ⌜ Searched (now (log .entry)) (take at placed) (at + left) (r .found) (r .order) ⌝ }
+{
+    if left == 0 {
+        return Search {
+            found: true,
+            order: placed,
+        };
+    }
+    let mut t: u16 = 1;
+    while t <= Transaction::LIMIT {
+        if free[t as usize] != 0 {
+            if fits(need, &last, t) {
+                let mut rest = free;
+                rest[t as usize] = 0;
+                let mut next = placed;
+                next[at] = t;
+                let then = after(writes, last, t);
+                let behind = place(log, need, writes, rest, then, next, at + 1, left - 1);
+                let found = behind.found;
+                if found {
+                    return behind;
+                }
+            }
+        }
+        t += 1;
+    }
+    Search {
+        found: false,
+        order: placed,
+    }
 }

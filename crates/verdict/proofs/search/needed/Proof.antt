@@ -1,59 +1,66 @@
+use mathlib.Core.Path.{_≡_, refl, sym, ap, _∙_}
+use mathlib.Core.Logic.{⊎-elim}
+use mathlib.Core.List.{List}
+use Prim.Native.Nat.{ℕ, _-_, _/_, _≤_}
+use native.Mathlib.Omega.{arith}
+use lib.ListN.{length}
+use Rattle.verdict.specs.Log.{steps, src}
+use Rattle.verdict.specs.Refusal.{taken, log-refusal}
+use Rattle.verdict.specs.Placing.{needing, need}
+use Rattle.verdict.proofs.WellFormed.{well-formed}
+use Rattle.verdict.proofs.Loosely.{need-more, need-same, asked}
 use Rattle.verdict.proofs.search.needed.Statement.{statement}
 use Rattle.verdict.proofs.search.needed.Tie as tie
-use Rattle.verdict.proofs.search.needed.Reads as reads
-use Rattle.verdict.proofs.search.needed.Lts as lts
-use Rattle.verdict.proofs.search.asks_for.Reads as asks-for-reads
-use Rattle.verdict.proofs.search.with_source.Reads as with-source-reads
 
 abbrev Inv-loop : tie.InvT-loop
-Inv-loop log t x n e₀ i₀ e i = ?
+Inv-loop log t x n e₀ i₀ e i = (n ≡ length log / 4) × (i ≤ n) × (log-refusal log ≡ taken) × (e ≡ need log t x i)
 
 abbrev μ-loop : tie.MeasureT-loop
-μ-loop log t x n e₀ i₀ e i = ?
+μ-loop log t x n e₀ i₀ e i = n - i
 
--- src/search.rt:60:5
 loop-holds : tie.Need-loop-holds Inv-loop μ-loop
-loop-holds c = ?
+unfolding need
+loop-holds c = (refl, omega arith, c .before .pre, refl)
 
--- src/search.rt:61:12
 asks-for-requires : tie.Need-asks-for-requires Inv-loop μ-loop
-asks-for-requires c κs = ?
+asks-for-requires c κs = omega arith
 
--- src/search.rt:62:36
 mul-with-source : tie.Need-mul-with-source Inv-loop μ-loop
-mul-with-source c = ?
+mul-with-source c = omega arith
 
--- src/search.rt:62:36
 add-with-source : tie.Need-add-with-source Inv-loop μ-loop
-add-with-source c = ?
+add-with-source c = omega arith
 
--- src/search.rt:62:32
 mul-with-source-2 : tie.Need-mul-with-source-2 Inv-loop μ-loop
-mul-with-source-2 c = ?
+mul-with-source-2 c = omega arith
 
--- src/search.rt:62:32
 shared-slice-read-with-source : tie.Need-shared-slice-read-with-source Inv-loop μ-loop
-shared-slice-read-with-source c = ?
+shared-slice-read-with-source c = omega arith
 
--- src/search.rt:62:13
 with-source-requires : tie.Need-with-source-requires Inv-loop μ-loop
-with-source-requires c κs = ?
+unfolding src steps
+with-source-requires c κs = 
+    let at = c .before .before .before .before in
+    let log : List ℕ = at .before .before .args .log .now in
+    asked log (well-formed log (at .loop .inv .2)) _ _ (at .loop .i) (omega arith) (sym (c .before .before .asks-for .ensures) ∙ c .before .if1 .taken)
 
--- src/search.rt:64:9
 add-i : tie.Need-add-i Inv-loop μ-loop
-add-i c = ?
+add-i c = omega arith
 
--- src/search.rt:60:5
 loop-less : tie.Need-loop-less Inv-loop μ-loop
-loop-less c = ?
+loop-less c = omega arith
 
--- src/search.rt:60:5
 loop-again : tie.Need-loop-again Inv-loop μ-loop
-loop-again c = ?
+unfolding src
+loop-again c = 
+    let at = c .before .before .before in
+    (refl, omega arith, at .loop .inv .2,
+    ⊎-elim (λ w. w .3 ∙ w .2 .ensures ∙ ap (λ (e : ℕ). needing e (src (at .before .before .args .log .now) (at .loop .i))) (at .loop .inv .3) ∙ sym (need-more _ _ _ (at .loop .i) (sym (c .before .asks-for .ensures) ∙ w .0 .taken)))
+    (λ w. w .1 ∙ at .loop .inv .3 ∙ sym (need-same _ _ _ (at .loop .i) (sym (c .before .asks-for .ensures) ∙ w .0 .left))) (c .if1 .came))
 
--- src/search.rt:53:1
 returns : tie.Need-returns Inv-loop μ-loop
-returns c = ?
+unfolding steps
+returns c = let e : c .before .loop .i ≡ length (c .before .before .before .args .log .now) / 4 = omega arith in rw (← e) (c .before .loop .inv .3)
 
 pub needed-spec : {M : Type 1} → statement M
 needed-spec =

@@ -1,28 +1,30 @@
+use mathlib.Core.Path.{_≡_, sym, _∙_}
+use Prim.Native.Nat.{suc}
+use native.Mathlib.Omega.{arith}
+use native.Mathlib.Numerals.{add-one}
 use borrow.Author.Needs.{needs}
+use Rattle.verdict.specs.Placing.{barred, needing}
+use Rattle.graph.proofs.Truth.{→is, →isnt, if-true, if-false}
 use Rattle.verdict.proofs.search.with_source.Statement.{statement}
 use Rattle.verdict.proofs.search.with_source.Tie as tie
-use Rattle.verdict.proofs.search.with_source.Reads as reads
-use Rattle.verdict.proofs.search.with_source.Lts as lts
 
--- src/search.rt:44:16
 add-result : tie.Need-add-result
 add-result c = search needs
 
--- src/search.rt:44:9
 returns : tie.Need-returns
-returns c = ?
+unfolding needing
+returns c = add-one _ ∙ sym (if-true _ _ (→is (c .if1 .taken)))
 
--- src/search.rt:46:13
 add-if2 : tie.Need-add-if2
 add-if2 c = search needs
 
--- src/search.rt:47:9
 returns-2 : tie.Need-returns-2
-returns-2 c = ?
+unfolding needing
+returns-2 c = sym (if-false _ _ (→isnt (c .before .if1 .left)) ∙ if-true _ _ (→is (c .if2 .taken ∙ add-one _)))
 
--- src/search.rt:39:1
 returns-3 : tie.Need-returns-3
-returns-3 c = ?
+unfolding needing barred
+returns-3 c = sym (if-false _ _ (→isnt (c .before .if1 .left)) ∙ if-false _ _ (→isnt (λ (k : c .before .before .args .e ≡ suc (c .before .before .args .s)). c .if2 .left (omega arith))))
 
 pub with-source-spec : {M : Type 1} → statement M
 with-source-spec = tie.close (tie.spec add-result returns add-if2 returns-2 returns-3)
