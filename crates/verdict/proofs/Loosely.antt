@@ -6,12 +6,13 @@ use mathlib.Core.List.{List, [], _∷_, _++_, append-nil, append-assoc}
 use Prim.Native.Nat.{ℕ, zero, suc, _+_, _*_, _/_, _%_, _≤_, _<_}
 use native.Mathlib.Omega.{arith}
 use native.Mathlib.Numerals.{add-one}
-use lib.ListN.{length, getD, set}
+use lib.ListN.{length, getD, set, take}
+use lib.Seq.{take-suc-set}
 use Rattle.graph.specs.Tests.{_is_, _below_, _and_, _or_, _implies_, fails, if_then_else_, some, every, count}
 use Rattle.graph.specs.Lists.{member, all, distinct}
 use Rattle.graph.specs.First.{dictionary, First, Never}
 use Rattle.graph.specs.Order.{once-each}
-use Rattle.graph.proofs.Truth.{decide, not-both, to-false, to-true, and→, →and, and-true, and-true-right, and-no-left, and-no-right, or→, →or-left, →or-right, or-false, or-no, fails→, →fails, not-fails→, →not-fails, implies→, →implies, is→, →is, isnt→, →isnt, below→, →below, not-below→, if-true, if-false, every→, →every}
+use Rattle.graph.proofs.Truth.{decide, not-both, to-false, to-true, and→, →and, and-true, and-true-right, and-no-left, and-no-right, or→, →or-left, →or-right, or-false, or-no, fails→, →fails, not-fails→, →not-fails, implies→, →implies, is→, →is, isnt→, →isnt, below→, →below, not-below→, if-true, if-false, every→, →every, some→, count-none, count-same, count-without, none-counted}
 use Rattle.graph.proofs.Places.{member→, member-head, member-tail, all→, →all, distinct→}
 use Rattle.graph.proofs.Dictionary.{dictionary-not}
 use Rattle.verdict.specs.Limits.{transactions, objects}
@@ -19,10 +20,10 @@ use Rattle.verdict.specs.Log.{steps, kind, tx, obj, src, reads, committe
 use Rattle.verdict.specs.Clean.{judged, judged-other, is-clean}
 use Rattle.verdict.specs.Replay.{finds, reads-right, serial, explains-loosely}
 use Rattle.verdict.specs.Walk.{Marked}
-use Rattle.verdict.specs.Placing.{barred, needing, allows, asks, need, ran, Needs, Writes, Placed}
+use Rattle.verdict.specs.Placing.{barred, needing, allows, asks, need, ran, Needs, Writes, Placed, Searched, found, missed}
 use Rattle.verdict.proofs.WellFormed.{Well}
 use Rattle.verdict.proofs.Versions.{committed-range}
-use Rattle.verdict.proofs.Marks.{ones}
+use Rattle.verdict.proofs.Marks.{ones, mark-clear}
 use Rattle.verdict.proofs.Judged.{judged-read, reader-fails}
 
 implies-true : {a b : Bool} → a ≡ true → (a implies b) ≡ b
@@ -274,6 +275,14 @@ module _ (log : List ℕ) (well : Well transactions log) where
         reader : (i : ℕ) → judged-other log i ≡ true → committed log (tx log i) ≡ true
         reader i j = unfold judged-other judged in (and→ (and→ j .0) .1)
 
+-- the first entries of an array with one more stored behind them
+pub take-next : (placed : List ℕ) (at t : ℕ) → at < length placed → take (at + 1) (set placed at t) ≡ take at placed ++ t ∷ []
+take-next placed at t h = rw (add-one at) (take-suc-set placed at t h)
+
+-- what holds below t and at t holds below t + 1
+pub and-here : (P : ℕ → Type 0) (t : ℕ) → ((a : ℕ) → a < t → P a) → P t → (a : ℕ) → a < t + 1 → P a
+and-here P t f h a k = ⊎-elim (λ (q : (a below t) ≡ true). f a (below→ q)) (λ (q : (a below t) ≡ false). let e : t ≡ a = omega (arith, not-below→ q) in subst P e h) (decide (a below t))
+
 -- THE FIRST LIST THAT PASSES, BY ITS HEAD
 module _ (passes : List ℕ → Bool) (not-empty : passes [] ≡ false) where
   pub first-head : (t : ℕ) (u : List ℕ) → ((a : ℕ) → a < t → Never (λ v. passes (a ∷ v))) → First dictionary (λ v. passes (t ∷ v)) u → First dictionary passes (t ∷ u)
@@ -312,3 +321,91 @@ module _ (log marks : List ℕ) (m : Marked (suc transactions) (committed log) m
             ones (λ u. fails (getD marks (u / objects) 0 is 0) and writer log (u % objects) (u / objects)) {marks = table} f .mark (t * objects + x) (omega arith)
             ∙ rw (pair-row t x k, pair-column t x k) (and-true (m .mark t (omega arith) ∙ c));
       }
+
+-- THE SEARCH, STEP BY STEP
+module _ (log : List ℕ) (well : Well transactions log) (p free last : List ℕ) (placed : Placed log p free last) where
+  E : List ℕ → Bool
+  E w = explains-loosely transactions log w
+
+  -- whether t is left
+  marks : ℕ → Bool
+  marks t = fails (getD free t 0 is 0)
+
+  marks→ : (t : ℕ) → t ≤ transactions → marks t ≡ true → (committed log t ≡ true) × (member t p ≡ false)
+  unfolding marks
+  marks→ t h m = let r = and→ (sym (placed .left .mark t (omega arith)) ∙ m) in (r .0, fails→ (r .1))
+
+  -- all are placed
+  pub search-done : (n : ℕ) (order : List ℕ) → is-clean log ≡ true → count (suc transactions) (λ t. fails (getD free t 0 is 0)) ≡ 0 → take n order ≡ p → Searched log p n true order
+  search-done n order cl z e =
+      found []
+      (record {
+        one = all-placed log well p free last placed cl (λ (t : ℕ) (h : t ≤ transactions) c. to-true _ (λ k. not-both (→and c (→fails k)) (sym (placed .left .mark t (omega arith)) ∙ none-counted (suc transactions) (λ t. fails (getD free t 0 is 0)) z t (omega arith))));
+        none-earlier = λ v h. unfold dictionary in refl;
+      })
+      (e ∙ sym (append-nil p))
+
+  -- numbers that are not left start nothing
+  pub before-first : (a : ℕ) → a < 1 → Never (λ v. explains-loosely transactions log (p ++ a ∷ v))
+  before-first a h v = to-false _ (λ k. let r = goes-on log well p free last placed a v k in omega (arith, r .2))
+
+  pub not-left : (t : ℕ) → t ≤ transactions → getD free t 0 ≡ 0 → Never (λ v. explains-loosely transactions log (p ++ t ∷ v))
+  not-left t h z v =
+      to-false _ (λ k.
+      let r = goes-on log well p free last placed t v k in
+      not-both (→and (r .0) (→fails (r .1))) (sym (placed .left .mark t (omega arith)) ∙ →not-fails (→is z)))
+
+  -- one that is left
+  module _ (t : ℕ) (h : t ≤ transactions) (m : getD free t 0 ≡ 0 → ⊥) {table : List ℕ} (needs : Needs log table) where
+    is-left : (committed log t ≡ true) × (member t p ≡ false)
+    is-left = marks→ t h (unfold marks in (→fails (→isnt m)))
+
+    finding : (x : ℕ) → x < objects → allows (getD table (t * objects + x) 0) (getD last x 0) ≡ allows (need log t x (steps log)) (ran log x 0 p)
+    finding x k = rw (needs .entry t x (is-left .0) h k, placed .writers x k) refl
+
+    pub not-fitting : every objects (λ x. allows (getD table (t * objects + x) 0) (getD last x 0)) ≡ false → Never (λ v. explains-loosely transactions log (p ++ t ∷ v))
+    not-fitting f v = to-false _ (λ e. not-both (→every _ (λ x k. finding x k ∙ to-true _ (λ q. not-both e (never-placed log well p free last placed t (is-left .0) (is-left .1) x q v)))) f)
+
+    pub fitting : every objects (λ x. allows (getD table (t * objects + x) 0) (getD last x 0)) ≡ true → {writes : List ℕ} → Writes log writes → (last′ : List ℕ)
+        → ((x : ℕ) → x < objects → getD last′ x 0 ≡ (if fails (getD writes (t * objects + x) 0 is 0) then t else getD last x 0)) → Placed log (p ++ t ∷ []) (set free t 0) last′
+    fitting f {writes} w last′ g =
+        placed-more log well p free last placed t (is-left .0) (is-left .1) (λ x k. sym (finding x k) ∙ every→ _ f x k) (set free t 0) last′
+        (record { mark = λ a k. mark-clear (placed .left) t .mark a k ∙ one-less a })
+        (λ x k. g x k ∙ rw (w .entry t x (is-left .0) h k) refl)
+      where
+        one-less : (a : ℕ) → ((committed log a and fails (member a p)) and fails (a is t)) ≡ (committed log a and fails (member a (p ++ t ∷ [])))
+        one-less a = go (decide (member a p)) (decide (a is t))
+          where
+            go : (member a p ≡ true) ⊎ (member a p ≡ false) → ((a is t) ≡ true) ⊎ ((a is t) ≡ false) → ((committed log a and fails (member a p)) and fails (a is t)) ≡ (committed log a and fails (member a (p ++ t ∷ [])))
+            go (inl k) q = and-no-left _ (and-no-right _ (→not-fails k)) ∙ sym (and-no-right _ (→not-fails (member-front a p (t ∷ []) k)))
+            go (inr k) (inl q) = and-no-right _ (→not-fails q) ∙ sym (and-no-right _ (→not-fails (member-back a p (t ∷ []) (unfold member in (→or-left _ q)))))
+            go (inr k) (inr q) =
+                and-true-right _ (→fails q) ∙ and-true-right _ (→fails k)
+                ∙ sym (and-true-right _ (→fails (to-false _ (λ e. ⊎-elim (λ l. not-both l k) (λ (l : member a (t ∷ []) ≡ true). ⊎-elim (λ (z : a ≡ t). isnt→ q z) (λ (z : member a [] ≡ true). false≢true (unfold member in z)) (member→ a t [] l)) (member-append→ a p (t ∷ []) e)))))
+
+    pub one-fewer : suc (count (suc transactions) (λ a. fails (getD (set free t 0) a 0 is 0))) ≡ count (suc transactions) (λ a. fails (getD free a 0 is 0))
+    one-fewer =
+        ap suc (count-same (suc transactions) _ _ (λ a k. mark-clear {p = λ a. fails (getD free a 0 is 0)} {marks = free} (record { mark = λ b l. refl }) t .mark a k))
+        ∙ count-without (suc transactions) (λ a. fails (getD free a 0 is 0)) t (omega arith) (→fails (→isnt m))
+
+    -- what is found behind it is found, and what is missed is missed
+    pub search-found : {n : ℕ} {order : List ℕ} → ((a : ℕ) → a < t → Never (λ v. explains-loosely transactions log (p ++ a ∷ v))) → Searched log (p ++ t ∷ []) n true order → Searched log p n true order
+    search-found f (found u g e) =
+        found (t ∷ u)
+        (first-head (λ v. explains-loosely transactions log (p ++ v)) (not-all log well p free last placed t (is-left .0) (is-left .1)) t u f
+        (record { one = rw (append-assoc p (t ∷ []) u) at (g .one); none-earlier = λ v k. g .none-earlier v (rw (append-assoc p (t ∷ []) v) k) }))
+        (e ∙ append-assoc p (t ∷ []) u)
+
+    pub search-missed : {n : ℕ} {order : List ℕ} → Searched log (p ++ t ∷ []) n false order → Never (λ v. explains-loosely transactions log (p ++ t ∷ v))
+    search-missed (missed g) v = rw (append-assoc p (t ∷ []) v) at (g v)
+
+  -- none of those left goes on
+  pub search-none : (n : ℕ) (order : List ℕ) → (count (suc transactions) (λ t. fails (getD free t 0 is 0)) ≡ 0 → ⊥) → ((a : ℕ) → a < suc transactions → Never (λ v. explains-loosely transactions log (p ++ a ∷ v))) → Searched log p n false order
+  search-none n order z f = missed (no-head (λ v. explains-loosely transactions log (p ++ v)) (one-left (decide (some (suc transactions) (λ t. fails (getD free t 0 is 0))))) heads)
+    where
+      one-left : (some (suc transactions) (λ t. fails (getD free t 0 is 0)) ≡ true) ⊎ (some (suc transactions) (λ t. fails (getD free t 0 is 0)) ≡ false) → explains-loosely transactions log (p ++ []) ≡ false
+      one-left (inl k) = let r = some→ k in let t : ℕ = r .0 in let l : t < suc transactions = r .1 in let q = marks→ t (omega arith) (unfold marks in (r .2)) in not-all log well p free last placed t (q .0) (q .1)
+      one-left (inr k) = absurd (z (count-none _ _ k))
+
+      heads : (a : ℕ) (v : List ℕ) → explains-loosely transactions log (p ++ a ∷ v) ≡ false
+      heads a v = to-false _ (λ k. let r = goes-on log well p free last placed a v k in not-both k (f a (omega (arith, r .3)) v))

@@ -129,7 +129,13 @@ fn write_table(log: &[u16], marks: &[u8; Transaction::TABLE]) -> [u8; Transactio
     while k < Transaction::PAIRS {
         let mut e: u8 = 0;
         if marks[k / Object::TABLE] != 0 {
-            if writes_within(log, 0, n, (k / Object::TABLE) as u16, (k % Object::TABLE) as u16) {
+            if writes_within(
+                log,
+                0,
+                n,
+                (k / Object::TABLE) as u16,
+                (k % Object::TABLE) as u16,
+            ) {
                 e = 1;
             }
         }
@@ -160,7 +166,11 @@ fn fits(need: &[u16; Transaction::PAIRS], last: &[u16; Object::TABLE], t: u16) -
 }
 
 // What is last written of each object when t has run.
-fn after(writes: &[u8; Transaction::PAIRS], last: [u16; Object::TABLE], t: u16) -> [u16; Object::TABLE]
+fn after(
+    writes: &[u8; Transaction::PAIRS],
+    last: [u16; Object::TABLE],
+    t: u16,
+) -> [u16; Object::TABLE]
     requires { ⌜ t ≤ transactions ⌝ }
     ensures { λ r. ⌜ ((x : ℕ) → x < objects
         → getD r x 0 ≡ (if fails (getD (now (writes .entry)) (t * objects + x) 0 is 0) then t else getD last x 0)) ⌝ }

@@ -52,12 +52,16 @@ loop-less : tie.Need-loop-less Inv-loop μ-loop
 loop-less c = omega arith
 
 loop-again : tie.Need-loop-again Inv-loop μ-loop
-loop-again c = 
+loop-again c =
     let at = c .before .before .before in
-    let a = at .before .before .args in
-    (omega arith, at .loop .inv .1, at .loop .inv .2, length-set (at .loop .next) (at .loop .x) (c .if1 .v) ∙ at .loop .inv .3,
-    table-more (λ u. if fails (getD (a .writes .now) (a .t * objects + u) 0 is 0) then a .t else getD (a .t2) u 0) (at .loop .next) (at .loop .x) (c .if1 .v) (omega (arith, at .loop .inv .3)) (at .loop .inv .4)
-    (⊎-elim (λ w. w .1 ∙ sym (if-true _ _ (→fails (→isnt (rw (at .loop .inv .1) at (w .0 .taken)))))) (λ w. w .1 ∙ sym (if-false _ _ (→not-fails (→is (rw (at .loop .inv .1) at (w .0 .left)))))) (c .if1 .came)))
+    let a = at .before .before .args in (
+      omega arith,
+      at .loop .inv .1,
+      at .loop .inv .2,
+      length-set (at .loop .next) (at .loop .x) (c .if1 .v) ∙ at .loop .inv .3,
+      table-more (λ u. if fails (getD (a .writes .now) (a .t * objects + u) 0 is 0) then a .t else getD (a .t2) u 0) (at .loop .next) (at .loop .x) (c .if1 .v) (omega (arith, at .loop .inv .3)) (at .loop .inv .4)
+          (⊎-elim (λ w. w .1 ∙ sym (if-true _ _ (→fails (→isnt (rw (at .loop .inv .1) at (w .0 .taken)))))) (λ w. w .1 ∙ sym (if-false _ _ (→not-fails (→is (rw (at .loop .inv .1) at (w .0 .left)))))) (c .if1 .came)),
+    )
 
 returns : tie.Need-returns Inv-loop μ-loop
 returns c = let e : c .before .loop .x ≡ 64 = omega arith in λ u h. c .before .loop .inv .4 u (omega (arith, h))

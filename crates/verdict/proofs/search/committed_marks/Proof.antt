@@ -39,12 +39,15 @@ loop-less c = omega arith
 
 loop-again : tie.Need-loop-again Inv-loop μ-loop
 unfolding committed commits does steps
-loop-again c = 
+loop-again c =
     let at = c .before .before .before in
-    let log : List ℕ = at .before .before .args .log .now in
-    (refl, omega arith, length-set (at .loop .marks) (at .loop .t) (c .if1 .e) ∙ at .loop .inv .2,
-    table-more (λ u. if committed log u then 1 else 0) (at .loop .marks) (at .loop .t) (c .if1 .e) (omega (arith, at .loop .inv .2)) (at .loop .inv .3)
-    (⊎-elim (λ w. w .1 ∙ sym (if-true _ _ (sym (c .before .seen .ensures) ∙ w .0 .taken))) (λ w. w .1 ∙ sym (if-false _ _ (sym (c .before .seen .ensures) ∙ w .0 .left))) (c .if1 .came)))
+    let log : List ℕ = at .before .before .args .log .now in (
+      refl,
+      omega arith,
+      length-set (at .loop .marks) (at .loop .t) (c .if1 .e) ∙ at .loop .inv .2,
+      table-more (λ u. if committed log u then 1 else 0) (at .loop .marks) (at .loop .t) (c .if1 .e) (omega (arith, at .loop .inv .2)) (at .loop .inv .3)
+          (⊎-elim (λ w. w .1 ∙ sym (if-true _ _ (sym (c .before .seen .ensures) ∙ w .0 .taken))) (λ w. w .1 ∙ sym (if-false _ _ (sym (c .before .seen .ensures) ∙ w .0 .left))) (c .if1 .came)),
+    )
 
 returns : tie.Need-returns Inv-loop μ-loop
 returns c = let e : c .before .loop .t ≡ 129 = omega arith in ones (committed (c .before .before .before .args .log .now)) (rw e at (c .before .loop .inv .3))

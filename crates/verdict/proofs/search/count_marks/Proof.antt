@@ -32,11 +32,13 @@ loop-less : tie.Need-loop-less Inv-loop μ-loop
 loop-less c = omega arith
 
 loop-again : tie.Need-loop-again Inv-loop μ-loop
-loop-again c = 
-    let at = c .before .before .before in
-    (omega arith, ⊎-elim (λ w. omega (arith, w .1)) (λ w. omega (arith, w .1)) (c .if1 .came),
-    ⊎-elim (λ w. w .1 ∙ add-one _ ∙ ap suc (at .loop .inv .2) ∙ sym (count-yes _ _ (→fails (→isnt (w .0 .taken)))))
-    (λ w. w .1 ∙ at .loop .inv .2 ∙ sym (count-no _ _ (→not-fails (→is (w .0 .left))))) (c .if1 .came))
+loop-again c =
+    let at = c .before .before .before in (
+      omega arith,
+      ⊎-elim (λ w. omega (arith, w .1)) (λ w. omega (arith, w .1)) (c .if1 .came),
+      ⊎-elim (λ w. w .1 ∙ add-one _ ∙ ap suc (at .loop .inv .2) ∙ sym (count-yes _ _ (→fails (→isnt (w .0 .taken)))))
+          (λ w. w .1 ∙ at .loop .inv .2 ∙ sym (count-no _ _ (→not-fails (→is (w .0 .left))))) (c .if1 .came),
+    )
 
 returns : tie.Need-returns Inv-loop μ-loop
 returns c = let e : c .before .loop .t ≡ 129 = omega arith in rw e at (c .before .loop .inv .2)

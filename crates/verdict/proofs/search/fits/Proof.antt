@@ -48,7 +48,7 @@ sub-if2 c = omega arith
 
 returns : tie.Need-returns Inv-loop μ-loop
 unfolding allows
-returns c = 
+returns c =
     let at = c .before .before .before .before .before in
     let a = at .before .before .args in
     let n : getD (a .need .now) (a .t * objects + at .loop .x) 0 ≡ 0 → ⊥ = rw (at .loop .inv .1) at (c .before .if1 .taken) in
@@ -63,12 +63,16 @@ loop-less c = omega arith
 
 loop-again : tie.Need-loop-again Inv-loop μ-loop
 unfolding allows
-loop-again c = 
+loop-again c =
     let at = c .before .before .before .before in
-    let a = at .before .before .args in
-    (omega arith, at .loop .inv .1, at .loop .inv .2, every-next _ _ ∙ →and (at .loop .inv .3)
-    (⊎-elim (λ w. let n : getD (a .need .now) (a .t * objects + at .loop .x) 0 ≡ 0 → ⊥ = rw (at .loop .inv .1) at (w .0 .taken) in let m : getD (a .need .now) (a .t * objects + at .loop .x) 0 - 1 ≡ getD (a .last .now) (at .loop .x) 0 = rw (at .loop .inv .1) at (w .1 .left) in →or-right _ (→is (omega arith)))
-    (λ w. →or-left _ (→is (rw (at .loop .inv .1) at (w .left)))) (c .if1 .came)))
+    let a = at .before .before .args in (
+      omega arith,
+      at .loop .inv .1,
+      at .loop .inv .2,
+      every-next _ _ ∙ →and (at .loop .inv .3)
+          (⊎-elim (λ w. let n : getD (a .need .now) (a .t * objects + at .loop .x) 0 ≡ 0 → ⊥ = rw (at .loop .inv .1) at (w .0 .taken) in let m : getD (a .need .now) (a .t * objects + at .loop .x) 0 - 1 ≡ getD (a .last .now) (at .loop .x) 0 = rw (at .loop .inv .1) at (w .1 .left) in →or-right _ (→is (omega arith)))
+          (λ w. →or-left _ (→is (rw (at .loop .inv .1) at (w .left)))) (c .if1 .came)),
+    )
 
 returns-2 : tie.Need-returns-2 Inv-loop μ-loop
 returns-2 c = let e : c .before .loop .x ≡ 64 = omega arith in sym (rw e at (c .before .loop .inv .3))

@@ -50,17 +50,19 @@ loop-less c = omega arith
 
 loop-again : tie.Need-loop-again Inv-loop μ-loop
 unfolding writer steps
-loop-again c = 
+loop-again c =
     let at = c .before .before .before in
     let a = at .before .before .args in
     let log : List ℕ = a .log .now in
-    let marks : List ℕ = a .marks .now in
-    (omega arith, length-set (at .loop .table) (at .loop .k) (c .if1 .e) ∙ at .loop .inv .1,
-    table-more (λ u. if fails (getD marks (u / objects) 0 is 0) then need log (u / objects) (u % objects) (steps log) else 0) (at .loop .table) (at .loop .k) (c .if1 .e) (omega (arith, at .loop .inv .1)) (at .loop .inv .2)
-    (⊎-elim (λ w. w .2 ∙ w .1 .ensures ∙ sym (if-true _ _ (→fails (→isnt (w .0 .taken))))) (λ w. w .1 ∙ sym (if-false _ _ (→not-fails (→is (w .0 .left))))) (c .if1 .came)))
+    let marks : List ℕ = a .marks .now in (
+      omega arith,
+      length-set (at .loop .table) (at .loop .k) (c .if1 .e) ∙ at .loop .inv .1,
+      table-more (λ u. if fails (getD marks (u / objects) 0 is 0) then need log (u / objects) (u % objects) (steps log) else 0) (at .loop .table) (at .loop .k) (c .if1 .e) (omega (arith, at .loop .inv .1)) (at .loop .inv .2)
+          (⊎-elim (λ w. w .2 ∙ w .1 .ensures ∙ sym (if-true _ _ (→fails (→isnt (w .0 .taken))))) (λ w. w .1 ∙ sym (if-false _ _ (→not-fails (→is (w .0 .left))))) (c .if1 .came)),
+    )
 
 returns : tie.Need-returns Inv-loop μ-loop
-returns c = 
+returns c =
     let a = c .before .before .before in
     let e : c .before .loop .k ≡ 8256 = omega arith in
     needs-from (a .args .log .now) (a .args .marks .now) (a .pre .1) _ (rw e at (c .before .loop .inv .2))

@@ -39,7 +39,7 @@ shared-slice-read-with-source c = omega arith
 
 with-source-requires : tie.Need-with-source-requires Inv-loop μ-loop
 unfolding src steps
-with-source-requires c κs = 
+with-source-requires c κs =
     let at = c .before .before .before .before in
     let log : List ℕ = at .before .before .args .log .now in
     asked log (well-formed log (at .loop .inv .2)) _ _ (at .loop .i) (omega arith) (sym (c .before .before .asks-for .ensures) ∙ c .before .if1 .taken)
@@ -52,11 +52,14 @@ loop-less c = omega arith
 
 loop-again : tie.Need-loop-again Inv-loop μ-loop
 unfolding src
-loop-again c = 
-    let at = c .before .before .before in
-    (refl, omega arith, at .loop .inv .2,
-    ⊎-elim (λ w. w .3 ∙ w .2 .ensures ∙ ap (λ (e : ℕ). needing e (src (at .before .before .args .log .now) (at .loop .i))) (at .loop .inv .3) ∙ sym (need-more _ _ _ (at .loop .i) (sym (c .before .asks-for .ensures) ∙ w .0 .taken)))
-    (λ w. w .1 ∙ at .loop .inv .3 ∙ sym (need-same _ _ _ (at .loop .i) (sym (c .before .asks-for .ensures) ∙ w .0 .left))) (c .if1 .came))
+loop-again c =
+    let at = c .before .before .before in (
+      refl,
+      omega arith,
+      at .loop .inv .2,
+      ⊎-elim (λ w. w .3 ∙ w .2 .ensures ∙ ap (λ (e : ℕ). needing e (src (at .before .before .args .log .now) (at .loop .i))) (at .loop .inv .3) ∙ sym (need-more _ _ _ (at .loop .i) (sym (c .before .asks-for .ensures) ∙ w .0 .taken)))
+          (λ w. w .1 ∙ at .loop .inv .3 ∙ sym (need-same _ _ _ (at .loop .i) (sym (c .before .asks-for .ensures) ∙ w .0 .left))) (c .if1 .came),
+    )
 
 returns : tie.Need-returns Inv-loop μ-loop
 unfolding steps

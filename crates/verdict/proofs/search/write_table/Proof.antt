@@ -46,18 +46,20 @@ loop-less c = omega arith
 
 loop-again : tie.Need-loop-again Inv-loop μ-loop
 unfolding writer steps
-loop-again c = 
+loop-again c =
     let at = c .before .before .before in
     let a = at .before .before .args in
     let log : List ℕ = a .log .now in
-    let marks : List ℕ = a .marks .now in
-    (omega arith, length-set (at .loop .table) (at .loop .k) (c .if1 .e) ∙ at .loop .inv .1,
-    table-more (λ u. if fails (getD marks (u / objects) 0 is 0) and writer log (u % objects) (u / objects) then 1 else 0) (at .loop .table) (at .loop .k) (c .if1 .e) (omega (arith, at .loop .inv .1)) (at .loop .inv .2)
-    (⊎-elim (λ w. w .3 ∙ sym (if-true _ _ (→and (→fails (→isnt (w .0 .taken))) (from-first _ _ ∙ sym (w .1 .ensures) ∙ w .2 .taken))))
-    (⊎-elim (λ w. w .3 ∙ sym (if-false _ _ (and-no-right _ (from-first _ _ ∙ sym (w .1 .ensures) ∙ w .2 .left)))) (λ w. w .1 ∙ sym (if-false _ _ (and-no-left _ (→not-fails (→is (w .0 .left))))))) (c .if1 .came)))
+    let marks : List ℕ = a .marks .now in (
+      omega arith,
+      length-set (at .loop .table) (at .loop .k) (c .if1 .e) ∙ at .loop .inv .1,
+      table-more (λ u. if fails (getD marks (u / objects) 0 is 0) and writer log (u % objects) (u / objects) then 1 else 0) (at .loop .table) (at .loop .k) (c .if1 .e) (omega (arith, at .loop .inv .1)) (at .loop .inv .2)
+          (⊎-elim (λ w. w .3 ∙ sym (if-true _ _ (→and (→fails (→isnt (w .0 .taken))) (from-first _ _ ∙ sym (w .1 .ensures) ∙ w .2 .taken))))
+          (⊎-elim (λ w. w .3 ∙ sym (if-false _ _ (and-no-right _ (from-first _ _ ∙ sym (w .1 .ensures) ∙ w .2 .left)))) (λ w. w .1 ∙ sym (if-false _ _ (and-no-left _ (→not-fails (→is (w .0 .left))))))) (c .if1 .came)),
+    )
 
 returns : tie.Need-returns Inv-loop μ-loop
-returns c = 
+returns c =
     let a = c .before .before .before in
     let e : c .before .loop .k ≡ 8256 = omega arith in
     writes-from (a .args .log .now) (a .args .marks .now) (a .pre) _ (rw e at (c .before .loop .inv .2))
