@@ -2,7 +2,6 @@
 mod cleanness;
 mod limits;
 mod refusal;
-mod snapshots;
 mod walk;
 
 pub use cleanness::clean;
@@ -13,7 +12,6 @@ pub use limits::MadeTransaction;
 pub use limits::Object;
 pub use limits::Transaction;
 pub use refusal::check;
-pub use snapshots::snapshot;
 pub use walk::committed;
 
 // What checking a log finds: that it is well-formed, or the number that turns it away and its place.

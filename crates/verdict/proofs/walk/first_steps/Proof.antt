@@ -6,7 +6,6 @@ use lib.ListN.{length, getD, length-set}
 use Rattle.graph.specs.Tests.{lowest}
 use Rattle.verdict.specs.Log.{steps}
 use Rattle.verdict.specs.Walk.{does}
-use Rattle.graph.proofs.Ring.{at}
 use Rattle.verdict.proofs.Marks.{table-more}
 use Rattle.verdict.proofs.walk.first_steps.Statement.{statement}
 use Rattle.verdict.proofs.walk.first_steps.Tie as tie
