@@ -6,7 +6,9 @@ pub mod Faults
 pub mod WellFormed
 pub mod Frame
 pub mod Marks
+pub mod Matrices
 pub mod Versions
+pub mod ConflictGraph
 pub mod Finds
 pub mod Center
 pub mod Judge

@@ -9,9 +9,8 @@ use crate::limits::Transaction;
 use crate::refusal::admit_witness;
 use crate::walk::clear;
 ghost use mathlib.Core.Path.{_≡_};
-ghost use Prim.Native.Nat.{suc, _≤_, _<_, _+_, _*_};
+ghost use Prim.Native.Nat.{suc, _≤_, _+_, _*_};
 ghost use lib.ListN.{length};
-ghost use Rattle.verdict.specs.Log.{steps};
 ghost use Rattle.verdict.specs.Refusal.{taken, log-refusal};
 ghost use Rattle.verdict.specs.Conflict.{meet, conflict-edge};
 ghost use Rattle.verdict.specs.Call.{ConflictCall};
@@ -38,7 +37,7 @@ fn meets(log: &[u16], i: usize, j: usize) -> bool
 
 // The edges that end at step j.
 fn mark_step(log: &[u16], work: &mut [u8], part: &[u8; Transaction::COUNT], j: usize)
-    requires { ⌜ (log-refusal (now log) ≡ taken) × (j < steps (now log)) × Committed (now log) (now part) × Matrix (conflicts-until (now log) j) (now work) ⌝ }
+    requires { ⌜ (log-refusal (now log) ≡ taken) × (4 * j + 4 ≤ length (now log)) × Committed (now log) (now part) × Matrix (conflicts-until (now log) j) (now work) ⌝ }
     ensures { λ _. ⌜ Matrix (conflicts-until (now (log .entry)) (suc j)) (now (work .exit)) ⌝ }
 {
     let t = log[4 * j + 1];

@@ -16,10 +16,10 @@ use crate::walk::first_step;
 use crate::walk::index;
 use crate::walk::writers;
 ghost use mathlib.Core.Path.{_≡_};
-ghost use Prim.Native.Nat.{suc, _≤_, _<_};
+ghost use Prim.Native.Nat.{suc, _≤_, _+_, _*_};
 ghost use lib.ListN.{length};
-ghost use Rattle.verdict.specs.Limits.{transactions, work-bytes};
-ghost use Rattle.verdict.specs.Log.{steps, kind, tx, obj, src};
+ghost use Rattle.verdict.specs.Limits.{work-bytes};
+ghost use Rattle.verdict.specs.Log.{tx, obj, src};
 ghost use Rattle.verdict.specs.Refusal.{taken, log-refusal};
 ghost use Rattle.verdict.specs.Version.{after, version-edge};
 ghost use Rattle.verdict.specs.Call.{VersionCall};
@@ -57,7 +57,7 @@ fn next_writer(log: &[u16], x: u16, v: u16) -> u16
 
 // The edge of a write: from its transaction to the writer of the next version.
 fn mark_write(log: &[u16], work: &mut [u8], i: usize)
-    requires { ⌜ (log-refusal (now log) ≡ taken) × (i < steps (now log)) × (length (now work) ≡ work-bytes) ⌝ }
+    requires { ⌜ (log-refusal (now log) ≡ taken) × (4 * i + 4 ≤ length (now log)) × (length (now work) ≡ work-bytes) ⌝ }
     ensures { λ _. ⌜ now (work .exit) ≡ with-edge (now (work .entry)) (tx (now (log .entry)) i) (next-writer (now (log .entry)) (obj (now (log .entry)) i) (tx (now (log .entry)) i)) ⌝ }
 {
     let t = log[4 * i + 1];
@@ -67,7 +67,7 @@ fn mark_write(log: &[u16], work: &mut [u8], i: usize)
 
 // The edges of a read: from its source to the reader, and from the reader to the writer of the version after the one read.
 fn mark_read(log: &[u16], work: &mut [u8], i: usize)
-    requires { ⌜ (log-refusal (now log) ≡ taken) × (i < steps (now log)) × (length (now work) ≡ work-bytes) ⌝ }
+    requires { ⌜ (log-refusal (now log) ≡ taken) × (4 * i + 4 ≤ length (now log)) × (length (now work) ≡ work-bytes) ⌝ }
     ensures { λ _. ⌜ now (work .exit) ≡ with-edge (with-edge (now (work .entry)) (src (now (log .entry)) i) (tx (now (log .entry)) i)) (tx (now (log .entry)) i) (next-writer (now (log .entry)) (obj (now (log .entry)) i) (src (now (log .entry)) i)) ⌝ }
 {
     let t = log[4 * i + 1];
@@ -79,7 +79,7 @@ fn mark_read(log: &[u16], work: &mut [u8], i: usize)
 
 // The edges of step i.
 fn mark_step(log: &[u16], work: &mut [u8], part: &[u8; Transaction::COUNT], i: usize)
-    requires { ⌜ (log-refusal (now log) ≡ taken) × (i < steps (now log)) × Committed (now log) (now part) × Matrix (versions-until (now log) i) (now work) ⌝ }
+    requires { ⌜ (log-refusal (now log) ≡ taken) × (4 * i + 4 ≤ length (now log)) × Committed (now log) (now part) × Matrix (versions-until (now log) i) (now work) ⌝ }
     ensures { λ _. ⌜ Matrix (versions-until (now (log .entry)) (suc i)) (now (work .exit)) ⌝ }
 {
     if takes_part(part, log[4 * i + 1]) {
