@@ -1,6 +1,6 @@
 -- The edges of a graph in the work area: one edge more, and what is shown of the matrix is what is shown of the graph.
 use mathlib.Core.Path.{_≡_, refl, sym, ap, fun-ext, _∙_}
-use mathlib.Core.Bool.{Bool, true, false}
+use mathlib.Core.Bool.{Bool, true, false, not}
 use mathlib.Core.Logic.{_⊎_, inl, inr}
 use mathlib.Core.List.{List}
 use Prim.Native.Nat.{ℕ, suc, _+_, _-_, _*_, _≤_, _<_}
@@ -9,13 +9,23 @@ use lib.ListN.{length, getD, set, length-set, length-replicate, getD-replicate}
 use lib.Seq.{getD-set-same, getD-set-other}
 use Rattle.graph.specs.Tests.{_is_, _and_, _or_, fails, some}
 use Rattle.graph.specs.Lists.{zeros}
-use Rattle.graph.specs.Matrix.{takes-part, joined}
-use Rattle.graph.proofs.Truth.{decide, to-true, to-false, not-both, same-test, and→, →and, and-no-left, and-no-right, →or-right, or-no, →fails, fails→, →not-fails, is→, isnt→, →is, →isnt, if-true, if-false, some-skip, some-next}
+use Rattle.graph.specs.Matrix.{takes-part, joined, told, Sorts}
+use Rattle.graph.specs.Shows.{Shown, order, cycle, members}
+use Rattle.graph.specs.declared.Answer as graph
+use Rattle.graph.specs.declared.Answer.the-variants as graph-answer
+use Rattle.graph.proofs.Truth.{decide, to-false, not-both, not-fails, same-test, and→, →and, and-true, and-no-left, and-no-right, →or-right, or-no, →fails, fails→, →not-fails, is→, isnt→, →is, →isnt, →upto, if-true, if-false, some-skip, some-next}
 use Rattle.graph.proofs.Marks.{part→, →part, joined→, →joined}
 use Rattle.verdict.specs.Limits.{transactions, work-bytes}
-use Rattle.verdict.specs.Log.{committed}
+use Rattle.verdict.specs.Log.{steps, kind, tx, commits, committed}
+use Rattle.verdict.specs.Answer as answer
+use Rattle.verdict.specs.Said.{said, witness as witness-of}
+use Rattle.verdict.specs.Call.{leaves-witness}
 use Rattle.verdict.specs.declared.Answer.{Answer}
-use Rattle.verdict.specs.Walk.{kept, one-edge, no-edge, byte-at, with-edge, Matrix, Committed, Showing}
+use Rattle.verdict.specs.declared.Answer.the-variants.{Order, Cycle}
+use Rattle.verdict.specs.Walk.{kept, one-edge, no-edge, byte-at, with-edge, Matrix, Marked, Committed, Showing}
+use Rattle.verdict.proofs.WellFormed.{Well}
+use Rattle.verdict.proofs.Versions.{committed-range}
+use Rattle.verdict.proofs.Marks.{mark-step, mark-skip, marked-yes, marked-no}
 
 -- WHICH EDGES ARE KEPT
 pub record Kept (s t : ℕ) : Type 0 where
@@ -119,7 +129,70 @@ module _ (edge : ℕ → ℕ → Bool) (gives : ℕ → ℕ → ℕ → Bool) (i
   pub walk-on : ((a b : ℕ) → gives i a b ≡ false) → Matrix (λ a b. edge a b or some (i + 1) (λ k. gives k a b)) m
   walk-on f = same-edges drawn (λ a b. ap (λ (z : Bool). edge a b or z) (sym (some-skip i (λ k. gives k a b) (f a b))))
 
+-- WHO COMMITTED
+pub mark-tells : (part : List ℕ) (t : ℕ) → 1 ≤ t → t ≤ transactions → not (getD part (t - 1) 0 is 0) ≡ takes-part transactions part t
+unfolding takes-part
+mark-tells part t low high = not-fails (getD part (t - 1) 0 is 0) ∙ sym (and-true (→and (→upto low) (→upto high)))
+
+module _ (log : List ℕ) (well : Well transactions log) where
+  -- one step more: the commit of a transaction, or another step
+  module _ (i : ℕ) {part : List ℕ} (marks : Marked transactions (λ d. some i (commits log (suc d))) part) where
+    pub commit-marked : length part ≡ transactions → i < steps log → kind log i ≡ 4 → Marked transactions (λ d. some (i + 1) (commits log (suc d))) (set part (tx log i - 1) 1)
+    unfolding commits
+    commit-marked size h k =
+        let low : 1 ≤ tx log i = well .range i h .0 in
+        let high : tx log i ≤ transactions = well .range i h .1 in
+        mark-step (λ d j. commits log (suc d) j) i marks (tx log i - 1) (omega arith) (→and (→is k) (→is (omega arith)))
+        (λ (d : ℕ) (n : d ≡ tx log i - 1 → ⊥). and-no-right _ (→isnt (λ (e : tx log i ≡ suc d). n (omega arith))))
+
+    pub commit-none : (kind log i ≡ 4 → ⊥) → Marked transactions (λ d. some (i + 1) (commits log (suc d))) part
+    unfolding commits
+    commit-none k = mark-skip (λ d j. commits log (suc d) j) i marks (λ d. and-no-left _ (→isnt k))
+
+  pub all-committed : {part : List ℕ} → Marked transactions (λ d. some (steps log) (commits log (suc d))) part → Committed log part
+  unfolding committed
+  all-committed {part} marks = record { mark = λ t. same-test (there t) (back t) }
+    where
+      there : (t : ℕ) → takes-part transactions part t ≡ true → committed log t ≡ true
+      there t h =
+          let p = part→ transactions part t h in
+          let low : 1 ≤ t = p .low in
+          let high : t ≤ transactions = p .high in
+          let e : suc (t - 1) ≡ t = omega arith in
+          rw e at (marked-yes marks (t - 1) (omega arith) (p .mark))
+
+      back : (t : ℕ) → committed log t ≡ true → takes-part transactions part t ≡ true
+      back t h =
+          let low : 1 ≤ t = committed-range log well t h .0 in
+          let high : t ≤ transactions = committed-range log well t h .1 in
+          let e : suc (t - 1) ≡ t = omega arith in
+          →part transactions part t (record { low = low; high = high; mark = λ z. not-both h (rw e at (marked-no marks (t - 1) (omega arith) z)) })
+
 -- WHAT IS SHOWN
+-- how the verdicts say what the graph's answer says
+unfoldable pub retold : graph.Answer → Answer
+retold (graph-answer.Order n) = Order n
+retold (graph-answer.Cycle n) = Cycle n
+
+pub sorted : {m part work witness : List ℕ} {r : graph.Answer} → Sorts transactions m part r witness → {a : Answer} → a ≡ retold r → work ≡ zeros work-bytes
+    → Showing (takes-part transactions part) (joined transactions m part) a work witness
+unfolding leaves-witness
+sorted s e z =
+    record {
+      shown = s .shown;
+      right = s .right;
+      says = e ∙ ap retold (s .answer) ∙ tells (s .shown);
+      leaves = rw (z, s .left, same (s .shown)) refl;
+    }
+  where
+    tells : (x : Shown) → retold (told x) ≡ said (answer.shown x)
+    tells (order w) = unfold retold told said in refl
+    tells (cycle c) = unfold retold told said in refl
+
+    same : (x : Shown) → members x ≡ witness-of (answer.shown x)
+    same (order w) = unfold members witness-of in refl
+    same (cycle c) = unfold members witness-of in refl
+
 -- the edges join different committed transactions
 pub record Between (log : List ℕ) (edge : ℕ → ℕ → Bool) : Type 0 where
   pub differ : (a b : ℕ) → edge a b ≡ true → a ≡ b → ⊥

@@ -1,7 +1,5 @@
-use mathlib.Core.Path.{sym, _∙_}
 use Rattle.graph.specs.Tests.{_is_}
-use Rattle.graph.specs.Matrix.{takes-part}
-use Rattle.graph.proofs.Truth.{not-fails, and-true, →and, →upto}
+use Rattle.verdict.proofs.Matrices.{mark-tells}
 use borrow.Author.Needs.{needs}
 use native.Mathlib.Omega.{arith}
 use Rattle.verdict.proofs.edges.takes_part.Statement.{statement}
@@ -17,9 +15,8 @@ element-copy-out-result : tie.Need-element-copy-out-result
 element-copy-out-result c = search needs
 
 returns : tie.Need-returns
-unfolding takes-part _is_
-returns c = let t = c .before .before .args .t in
-    not-fails _ ∙ rw (c .before .index .ensures) (sym (and-true (→and (→upto (omega arith)) (→upto (omega arith)))))
+unfolding _is_
+returns c = rw (c .before .index .ensures) (mark-tells _ _ (omega arith) (omega arith))
 
 pub takes-part-spec : {M : Type 1} → statement M
 takes-part-spec = tie.close (tie.spec index-requires sub-result element-copy-out-result returns)
