@@ -12,6 +12,7 @@ pub mod ConflictGraph
 pub mod Finds
 pub mod Center
 pub mod Judge
+pub mod VersionGraph
 pub mod Some
 pub mod Only
 pub mod Listing
