@@ -5,7 +5,6 @@ use lib.ListN.{length}
 use Rattle.graph.specs.Tests.{some}
 use Rattle.verdict.specs.Log.{steps}
 use Rattle.verdict.specs.Walk.{no-edge, versions-until, Matrix}
-use Rattle.verdict.proofs.WellFormed.{well-formed}
 use Rattle.verdict.proofs.Matrices.{same-edges}
 use Rattle.verdict.proofs.VersionGraph.{all-versions}
 use native.Mathlib.Omega.{arith}
@@ -20,10 +19,10 @@ abbrev μ-loop : tie.MeasureT-loop
 
 loop-holds : tie.Need-loop-holds Inv-loop μ-loop
 unfolding versions-until some no-edge
-loop-holds c = ?
+loop-holds c = (refl, omega arith, same-edges (c .before .before .pre .2) (λ a b. refl))
 
 mark-step-requires : tie.Need-mark-step-requires Inv-loop μ-loop
-mark-step-requires c κs = ?
+mark-step-requires c κs = let here = c .before .before .before .before .before in (here .pre .0, omega arith, here .pre .1, c .before .before .loop .inv .2)
 
 add-i : tie.Need-add-i Inv-loop μ-loop
 add-i c = omega arith
@@ -32,14 +31,16 @@ loop-less : tie.Need-loop-less Inv-loop μ-loop
 loop-less c = omega arith
 
 loop-again : tie.Need-loop-again Inv-loop μ-loop
-loop-again c = ?
+loop-again c = (refl, omega arith, rw (add-one (c .before .before .before .before .before .loop .i)) (c .before .before .mark-step .ensures))
 
 same-length : tie.Need-same-length Inv-loop μ-loop
-same-length c = ?
+same-length c = c .before .loop .inv .2 .size ∙ sym (c .before .before .before .before .pre .2 .size)
 
 returns : tie.Need-returns Inv-loop μ-loop
 unfolding steps
-returns c = ?
+returns c = let here = c .before .before .before .before in
+    let e : c .before .loop .i ≡ length (here .args .log .now) / 4 = omega arith in
+    same-edges (rw e at (c .before .loop .inv .2)) (all-versions _)
 
 pub draw-spec : {M : Type 1} → statement M
 draw-spec =
