@@ -8,14 +8,14 @@ use native.Mathlib.Omega.{arith}
 use Rattle.graph.specs.Tests.{_is_, _below_, _upto_, _and_, _or_, fails, some, lowest}
 use Rattle.graph.proofs.Truth.{decide, not-both, same-test, and→, →and, and-true, and-no-left, and-no-right, or→, →or-left, →or-right, or-no, or-false, →fails, fails→, is→, isnt→, →is, →isnt, →below, below→, →not-below, upto→, →upto, →not-upto, if-true, if-false, some→, →some, →none, none→, none-below, lowest-at, lowest-none, lowest-bound}
 use Rattle.verdict.specs.Limits.{transactions}
-use Rattle.verdict.specs.Log.{steps, kind, tx, obj, src, reads, commits, committed, writer, commits-writer}
+use Rattle.verdict.specs.Log.{steps, kind, tx, obj, src, reads, writes, committed, writer, commits-writer}
 use Rattle.verdict.specs.Clean.{judged, is-clean}
 use Rattle.verdict.specs.Version.{after, next-commit, next-version, writer-to-next, source-to-reader, reader-to-next, version-edge}
-use Rattle.verdict.specs.Walk.{one-edge, next-writer, write-edges, read-edges, version-step, versions-until}
+use Rattle.verdict.specs.Walk.{one-edge, with-edge, next-writer, write-edges, read-edges, version-step, versions-until, Matrix}
 use Rattle.verdict.proofs.WellFormed.{Well}
 use Rattle.verdict.proofs.Versions.{candidate, next→}
 use Rattle.verdict.proofs.Judge.{version-ends}
-use Rattle.verdict.proofs.Matrices.{Kept, one-edge→, →one-edge, Between}
+use Rattle.verdict.proofs.Matrices.{Kept, one-edge→, →one-edge, same-edges, edge-more, edges-more, Between}
 
 -- THE WRITER OF THE NEXT VERSION
 module _ (log : List ℕ) (x v : ℕ) where
@@ -71,6 +71,18 @@ next-range log well x v = go (decide (next-commit log x v below steps log))
     go (inl k) = rw (if-true (tx log (next-commit log x v)) 0 k) (well .range (next-commit log x v) (below→ k) .1)
     go (inr k) = rw (if-false (tx log (next-commit log x v)) 0 k) (omega arith)
 
+-- a source is a transaction too, or 0
+pub source-range : (log : List ℕ) → Well transactions log → (i : ℕ) → i < steps log → kind log i ≡ 2 → src log i ≤ transactions
+unfolding writer writes
+source-range log well i h k = go (decide (src log i is 0))
+  where
+    go : ((src log i is 0) ≡ true) ⊎ ((src log i is 0) ≡ false) → src log i ≤ transactions
+    go (inl z) = let e : src log i ≡ 0 = is→ z in omega arith
+    go (inr n) =
+        let r = some→ (well .source i h k (isnt→ n)) in
+        let e : tx log (r .0) ≡ src log i = is→ (and→ (and→ (r .2) .0) .1) in
+        rw e at (well .range (r .0) (r .1) .1)
+
 -- THE EDGES OF A STEP
 module _ (log : List ℕ) (i : ℕ) where
   pub open-step : committed log (tx log i) ≡ false → (a b : ℕ) → version-step log i a b ≡ false
@@ -89,6 +101,26 @@ module _ (log : List ℕ) (i : ℕ) where
     pub read-step : kind log i ≡ 2 → (a b : ℕ) → version-step log i a b ≡ read-edges log i a b
     unfolding version-step
     read-step r a b = and-true c ∙ or-false (and-no-left _ (→isnt (λ (w : kind log i ≡ 3). omega arith))) ∙ and-true (→is r)
+
+  -- the matrix of the steps below i, and then of step i too
+  module _ {m : List ℕ} (drawn : Matrix (versions-until log i) m) where
+    pub none-drawn : ((a b : ℕ) → version-step log i a b ≡ false) → Matrix (versions-until log (suc i)) m
+    unfolding versions-until some
+    none-drawn f = same-edges drawn (λ a b. sym (or-no _ (f a b)))
+
+    module _ (well : Well transactions log) (h : i < steps log) (c : committed log (tx log i) ≡ true) where
+      pub write-drawn : kind log i ≡ 3 → Matrix (versions-until log (suc i)) (with-edge m (tx log i) (next-writer log (obj log i) (tx log i)))
+      unfolding versions-until some write-edges
+      write-drawn w =
+          same-edges (edge-more drawn (tx log i) (next-writer log (obj log i) (tx log i)) (well .range i h .1) (next-range log well _ _))
+          (λ a b. ap (λ (z : Bool). versions-until log i a b or z) (sym (write-step c w a b)))
+
+      pub read-drawn : kind log i ≡ 2
+          → Matrix (versions-until log (suc i)) (with-edge (with-edge m (src log i) (tx log i)) (tx log i) (next-writer log (obj log i) (src log i)))
+      unfolding versions-until some read-edges
+      read-drawn r =
+          same-edges (edges-more (src log i) (tx log i) (source-range log well i h r) (well .range i h .1) (tx log i) (next-writer log (obj log i) (src log i)) (well .range i h .1) (next-range log well _ _) drawn)
+          (λ a b. ap (λ (z : Bool). versions-until log i a b or z) (sym (read-step c r a b)))
 
 -- THE EDGES OF ALL STEPS
 module _ (log : List ℕ) (a b : ℕ) where
