@@ -1,83 +1,96 @@
+use mathlib.Core.Path.{_≡_, refl, sym, ap, _∙_}
+use Rattle.graph.specs.Lists.{zeros}
+use Rattle.verdict.specs.Refusal.{work-refusal, witness-refusal}
+use Rattle.verdict.specs.Said.{said-refusal}
+use Rattle.verdict.specs.Answer.{shown, unclean-by}
+use mathlib.Core.List.{List}
+use mathlib.Core.Logic.{⊎-elim}
+use native.Mathlib.Omega.{arith}
+use Prim.Native.Nat.{ℕ}
+use Rattle.verdict.specs.Clean.{clean, cleanness}
+use Rattle.verdict.specs.Version.{version, version-unclean}
+use Rattle.verdict.specs.Said.{said}
+use Rattle.verdict.specs.Call.{turned-away, answered}
+use Rattle.verdict.specs.declared.Answer.the-variants.{Unclean}
+use Rattle.verdict.proofs.WellFormed.{well-formed}
+use Rattle.verdict.proofs.Frame.{admitted, not-admitted, nothing-left}
+use Rattle.verdict.proofs.Faults.{told-clean, told-unclean}
+use Rattle.verdict.proofs.Judge.{cleanness-clean}
+use Rattle.verdict.proofs.Matrices.{no-edges, shown-of}
+use Rattle.verdict.proofs.VersionGraph.{version-between}
 use borrow.Author.Needs.{needs}
 use Rattle.verdict.proofs.version_graph.version.Statement.{statement}
 use Rattle.verdict.proofs.version_graph.version.Tie as tie
-use Rattle.verdict.proofs.version_graph.version.Reads as reads
-use Rattle.verdict.proofs.version_graph.version.Lts as lts
-use Rattle.verdict.proofs.cleanness.judge_clean.Reads as judge-clean-reads
-use Rattle.verdict.proofs.edges.clear_witness.Reads as clear-witness-reads
-use Rattle.verdict.proofs.edges.committed_ones.Reads as committed-ones-reads
-use Rattle.verdict.proofs.edges.show.Reads as show-reads
-use Rattle.verdict.proofs.refusal.admit_witness.Reads as admit-witness-reads
-use Rattle.verdict.proofs.version_graph.draw.Reads as draw-reads
-use Rattle.verdict.proofs.walk.clear.Reads as clear-reads
 
--- src/version_graph.rt:114:9
 admit-witness-requires : tie.Need-admit-witness-requires
 admit-witness-requires c κs = search needs
 
--- src/version_graph.rt:116:26
 enum-known-admitted : tie.Need-enum-known-admitted
 enum-known-admitted c = search needs
 
--- src/version_graph.rt:118:19
 enum-told : tie.Need-enum-told
 enum-told c = search needs
 
--- src/version_graph.rt:118:13
 clear-requires : tie.Need-clear-requires
 clear-requires c κs = search needs
 
--- src/version_graph.rt:119:17
 judge-clean-requires : tie.Need-judge-clean-requires
 judge-clean-requires c κs = search needs
 
--- src/version_graph.rt:120:41
 enum-known-judged : tie.Need-enum-known-judged
 enum-known-judged c = search needs
 
--- src/version_graph.rt:121:17
 clear-witness-requires : tie.Need-clear-witness-requires
 clear-witness-requires c κs = search needs
 
--- src/version_graph.rt:122:17
 same-length : tie.Need-same-length
 same-length c = search needs
 
--- src/version_graph.rt:122:17
 same-length-2 : tie.Need-same-length-2
 same-length-2 c = search needs
 
--- src/version_graph.rt:122:17
 returns : tie.Need-returns
-returns c = ?
+unfolding said-refusal work-refusal witness-refusal said
+returns c = let here = c .before .before .before .before .before .before .before .before .before .before .before .before .before .before .before .before .before .before in
+    let a = admitted (here .args .log .now) (here .args .work .now) (here .args .witness .now) (c .before .before .before .before .before .before .before .before .before .before .before .before .before .before .admit-witness .ensures) (c .before .before .before .before .before .before .before .before .before .before .before .before .enum-told .given .1) in 
+    let u = told-unclean (cleanness (here .args .log .now)) (sym (c .before .before .before .before .before .before .before .judge-clean .ensures) ∙ c .before .before .before .before .before .judged .given .1) in
+    answered (unclean-by (u .0)) (sym (a .taken-all)) (version-unclean (u .1)) (ap Unclean (u .2)) (nothing-left a (u .0) (c .before .before .before .before .before .before .before .before .before .before .clear .ensures) (c .before .before .clear-witness .ensures))
 
--- src/version_graph.rt:124:24
 committed-ones-requires : tie.Need-committed-ones-requires
-committed-ones-requires c κs = ?
+unfolding said-refusal work-refusal witness-refusal
+committed-ones-requires c κs = let here = c .before .before .before .before .before .before .before .before .before .before .before .before in
+    let a = admitted (here .args .log .now) (here .args .work .now) (here .args .witness .now) (c .before .before .before .before .before .before .before .before .admit-witness .ensures) (c .before .before .before .before .before .before .enum-told .given .1) in a .well
 
--- src/version_graph.rt:125:13
 draw-requires : tie.Need-draw-requires
-draw-requires c κs = ?
+unfolding said-refusal work-refusal witness-refusal
+draw-requires c κs = let here = c .before .before .before .before .before .before .before .before .before .before .before .before .before .before .before in
+    let a = admitted (here .args .log .now) (here .args .work .now) (here .args .witness .now) (c .before .before .before .before .before .before .before .before .before .before .before .admit-witness .ensures) (c .before .before .before .before .before .before .before .before .before .enum-told .given .1) in (a .well, c .before .before .committed-ones .ensures, no-edges (c .before .before .before .before .before .before .before .clear .ensures ∙ ap zeros (a .work-size)))
 
--- src/version_graph.rt:126:13
 show-requires : tie.Need-show-requires
-show-requires c κs = ?
+unfolding said-refusal work-refusal witness-refusal
+show-requires c κs = let here = c .before .before .before .before .before .before .before .before .before .before .before .before .before .before .before .before .before .before .before .before in
+    let a = admitted (here .args .log .now) (here .args .work .now) (here .args .witness .now) (c .before .before .before .before .before .before .before .before .before .before .before .before .before .before .before .before .admit-witness .ensures) (c .before .before .before .before .before .before .before .before .before .before .before .before .before .before .enum-told .given .1) in (c .before .before .before .before .draw .ensures .size, a .witness-size)
 
--- src/version_graph.rt:111:1
 returns-2 : tie.Need-returns-2
-returns-2 c = ?
+unfolding said-refusal work-refusal witness-refusal
+returns-2 c = 
+    let here = c .before .before .before .before .before .before .before in
+    turned-away _ _ (not-admitted (here .args .log .now) (here .args .work .now) (here .args .witness .now) (c .before .before .before .admit-witness .ensures) (c .before .admitted .given .1)) refl refl
 
--- src/version_graph.rt:111:1
 same-length-3 : tie.Need-same-length-3
 same-length-3 c = search needs
 
--- src/version_graph.rt:111:1
 same-length-4 : tie.Need-same-length-4
 same-length-4 c = search needs
 
--- src/version_graph.rt:111:1
 returns-3 : tie.Need-returns-3
-returns-3 c = ?
+unfolding said-refusal work-refusal witness-refusal
+returns-3 c = let here = c .before .before .before .before .before .before .before .before .before .before .before .before .before .before .before .before .before .before .before .before .before .before .before .before .before in
+    let a = admitted (here .args .log .now) (here .args .work .now) (here .args .witness .now) (c .before .before .before .before .before .before .before .before .before .before .before .before .before .before .before .before .before .before .before .before .before .admit-witness .ensures) (c .before .before .before .before .before .before .before .before .before .before .before .before .before .before .before .before .before .before .before .enum-told .given .1) in 
+    let log : List ℕ = here .args .log .now in
+    let k : cleanness log ≡ clean = told-clean (cleanness log) (c .before .before .before .before .before .before .before .before .before .before .before .before .before .before .judge-clean .ensures) (λ f e. ⊎-elim (λ (z : _≡_ {A = ℕ} 2 0). omega arith) (λ (z : _≡_ {A = ℕ} 2 1). omega arith) (rw e at (c .before .before .before .before .before .before .before .before .before .before .before .before .before .match2 .keys2))) in
+    let s = shown-of (c .before .before .before .before .before .before .before .before .before .before .before .before .committed-ones .ensures) (c .before .before .before .before .before .before .before .before .before .draw .ensures) (version-between log (well-formed log (a .well)) (cleanness-clean log k)) (c .before .before .before .before .show .ensures) in
+    answered (shown (s .shown)) (sym (a .taken-all)) (version {s = s .shown} k (s .right)) (s .says) (s .leaves)
 
 pub version-spec : {M : Type 1} → statement M
 version-spec =
