@@ -12,7 +12,7 @@ use Rattle.verdict.specs.declared.Checked.the-variants as checked
 use Rattle.verdict.specs.Answer as answer
 use Rattle.verdict.specs.Clean.{Fault}
 use Rattle.verdict.specs.Said.{said-refusal, witness as witness-of}
-use Rattle.verdict.specs.Call.{leaves-work, leaves-witness}
+use Rattle.verdict.specs.Call.{Call, turned-away, answered, leaves-work, leaves-witness}
 use Rattle.verdict.proofs.WellFormed.{else-try→, when→}
 use Rattle.verdict.proofs.Steps.{said-refused, said-passed}
 
@@ -58,3 +58,9 @@ pub witness-left : {rest : Refusal} {work witness work′ witness′ : List ℕ}
     → work′ ∷ witness′ ∷ [] ≡ leaves-witness a
 unfolding leaves-witness
 witness-left t a e g = rw (e, g, t .work-size) refl
+
+-- a call by another name of the same refusal
+pub instead : {A R : Type 0} {whole rest : Refusal} {away : ℕ → ℕ → R} {verdict : A → Type 0} {says : A → R} {leaves : A → List (List ℕ)} {before : List (List ℕ)} {r : R} {after : List (List ℕ)}
+    → whole ≡ rest → Call (λ f. f ≡ rest) away verdict says leaves before r after → Call (λ f. f ≡ whole) away verdict says leaves before r after
+instead e (turned-away n p g h k) = turned-away n p (g ∙ sym e) h k
+instead e (answered a g v h k) = answered a (g ∙ sym e) v h k

@@ -21,4 +21,5 @@ pub mod Some
 pub mod Searching
 pub mod Only
 pub mod Listing
+pub mod NextLaws
 pub mod Samples

@@ -9,7 +9,8 @@ use lib.ListN.{length, getD, set, length-set, length-replicate, getD-replicate}
 use lib.Seq.{getD-set-same, getD-set-other}
 use Rattle.graph.specs.Tests.{_is_, _or_, fails, some}
 use Rattle.graph.specs.Lists.{zeros}
-use Rattle.graph.specs.Matrix.{takes-part, joined, told, Sorts}
+use Rattle.graph.specs.Order.{is-order}
+use Rattle.graph.specs.Matrix.{matrix-order, takes-part, joined, told, Sorts}
 use Rattle.graph.specs.Shows.{Shown, order, cycle, members}
 use Rattle.graph.specs.declared.Answer as graph
 use Rattle.graph.specs.declared.Answer.the-variants as graph-answer
@@ -222,3 +223,8 @@ module _ {log m part : List ℕ} {edge : ℕ → ℕ → Bool} (marks : Committe
 
   pub shown-of : {r : Answer} {work witness : List ℕ} → Showing (takes-part transactions part) (joined transactions m part) r work witness → Showing (committed log) edge r work witness
   shown-of s = rw (same-nodes, fun-ext (λ a. fun-ext (same-joined a))) at s
+
+  -- the orders of the matrix are those of the graph
+  pub order-of : (w : List ℕ) → matrix-order transactions m part w ≡ is-order (suc transactions) (committed log) edge w
+  unfolding matrix-order
+  order-of w = rw (same-nodes, fun-ext (λ a. fun-ext (same-joined a))) refl

@@ -47,6 +47,12 @@ try-more taken (refused n p) l s = refl
 try-more taken taken (refused n p) s = refl
 try-more taken taken taken s = refl
 
+-- .. and after three
+pub try-more-3 : (a b o l s : Refusal) → (a else-try b else-try o else-try l else-try s) ≡ ((a else-try b else-try o else-try l) else-try s)
+unfolding _else-try_
+try-more-3 (refused n p) b o l s = refl
+try-more-3 taken b o l s = try-more b o l s
+
 -- a number, 0 standing for none
 pub numbered-some : (n p : ℕ) → (n ≡ 0 → ⊥) → numbered n p ≡ refused n p
 unfolding numbered fails

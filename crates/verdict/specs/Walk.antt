@@ -3,7 +3,7 @@ use mathlib.Core.Path.{_≡_}
 use mathlib.Core.Bool.{Bool, false}
 use mathlib.Core.List.{List, [], _∷_}
 use Prim.Native.Nat.{ℕ, suc, _+_, _-_, _*_, _≤_, _<_}
-use lib.ListN.{length, getD, set}
+use lib.ListN.{length, getD, set, take, drop}
 use Rattle.graph.specs.Tests.{_is_, _below_, _upto_, _and_, _or_, fails, if_then_else_, some, lowest}
 use Rattle.graph.specs.Shows.{Shown, Shows}
 use Rattle.graph.specs.Matrix.{takes-part}
@@ -11,11 +11,13 @@ use Rattle.verdict.specs.Limits.{transactions, objects, work-bytes}
 use Rattle.verdict.specs.Log.{steps, kind, tx, obj, src, committed, commit-step}
 use Rattle.verdict.specs.Conflict.{meet}
 use Rattle.verdict.specs.Version.{next-commit}
+use Rattle.verdict.specs.Next.{Next, up-to-zero, from-zero, list-refusal}
+use Rattle.verdict.specs.declared.Answer.the-variants as the-answer
 use Rattle.verdict.specs.Snapshot.{overlap, clash, wrong-commit}
 use Rattle.verdict.specs.Refusal.{Refusal, _at_when_, _else-try_}
 use Rattle.verdict.specs.Answer as answer
 use Rattle.verdict.specs.Said.{said}
-use Rattle.verdict.specs.Call.{leaves-witness}
+use Rattle.verdict.specs.Call.{Call, leaves-witness}
 use Rattle.verdict.specs.declared.Answer.{Answer}
 
 -- the refusal with number n, where 0 stands for none
@@ -112,3 +114,15 @@ module _ (log : List ℕ) where
 
   unfoldable pub versions-until : ℕ → ℕ → ℕ → Bool
   versions-until n a b = some n (λ i. version-step i a b)
+
+-- r numbers of an order handed in stand before the first 0
+pub record Split (order : List ℕ) (r : ℕ) : Type 0 where
+  pub size : r ≤ length order
+  pub front : up-to-zero order ≡ take r order
+  pub back : from-zero order ≡ drop r order
+
+-- what "next" answers and leaves for a well-formed log and buffers of the right length
+abbrev pub FollowCall : (log given work witness : List ℕ) → Answer → (work′ witness′ : List ℕ) → Type 0
+FollowCall log given work witness r work′ witness′ =
+    Call (λ f. f ≡ list-refusal transactions log given) the-answer.Refused (Next transactions log (up-to-zero given)) said leaves-witness
+    (work ∷ witness ∷ []) r (work′ ∷ witness′ ∷ [])
