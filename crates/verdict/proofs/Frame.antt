@@ -3,7 +3,6 @@ use mathlib.Core.Path.{_≡_, refl, sym, ap, _∙_}
 use mathlib.Core.List.{List, [], _∷_}
 use Prim.Native.Nat.{ℕ}
 use lib.ListN.{length}
-use Rattle.graph.specs.Tests.{_is_, fails}
 use Rattle.graph.specs.Lists.{zeros, entries}
 use Rattle.graph.proofs.Truth.{not-fails→, is→}
 use Rattle.verdict.specs.Limits.{work-bytes, witness-entries}

@@ -44,7 +44,7 @@ shared-slice-read-if2 c = omega arith
 
 returns : tie.Need-returns Inv-loop μ-loop
 unfolding steps does kind tx
-returns c = 
+returns c =
     let at = c .before .before .before .before .before in
     sym (lowest-at (does (at .before .args .log .now) (at .before .args .k) (at .before .args .t)) (at .loop .i) (omega arith) (→and (→is (c .before .before .if1 .taken)) (→is (c .if2 .taken))) (none→ _ (at .loop .inv .2)))
 
@@ -56,13 +56,13 @@ loop-less c = omega arith
 
 loop-again : tie.Need-loop-again Inv-loop μ-loop
 unfolding does kind tx
-loop-again c = 
+loop-again c =
     let at = c .before .before .before in
     (refl, omega arith, none-next _ _ (at .loop .inv .2) (⊎-elim (λ w. and-no-right _ (→isnt (w .2 .left))) (λ w. and-no-left _ (→isnt (w .left))) (c .if1 .came)))
 
 returns-2 : tie.Need-returns-2 Inv-loop μ-loop
 unfolding steps
-returns-2 c = 
+returns-2 c =
     let a = c .before .before .args in
     let e : c .before .loop .i ≡ length (a .log .now) / 4 = omega arith in
     e ∙ sym (lowest-none (does (a .log .now) (a .k) (a .t)) (rw e at (c .before .loop .inv .2)))

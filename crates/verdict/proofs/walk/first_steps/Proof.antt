@@ -38,11 +38,13 @@ loop-less : tie.Need-loop-less Inv-loop μ-loop
 loop-less c = omega arith
 
 loop-again : tie.Need-loop-again Inv-loop μ-loop
-loop-again c = 
+loop-again c =
     let at = c .before .before in
-    let a = at .before .before .args in
-    (omega arith, length-set (at .loop .table) (at .loop .t) (c .first-step .result) ∙ at .loop .inv .1,
-    table-more (λ u. lowest (steps (a .log .now)) (does (a .log .now) (a .k) u)) (at .loop .table) (at .loop .t) (c .first-step .result) (omega (arith, at .loop .inv .1)) (at .loop .inv .2) (c .first-step .ensures))
+    let a = at .before .before .args in (
+      omega arith,
+      length-set (at .loop .table) (at .loop .t) (c .first-step .result) ∙ at .loop .inv .1,
+      table-more (λ u. lowest (steps (a .log .now)) (does (a .log .now) (a .k) u)) (at .loop .table) (at .loop .t) (c .first-step .result) (omega (arith, at .loop .inv .1)) (at .loop .inv .2) (c .first-step .ensures),
+    )
 
 returns : tie.Need-returns Inv-loop μ-loop
 returns c = record { entry = λ t h. c .before .loop .inv .2 t (omega arith) }

@@ -64,7 +64,7 @@ index-requires c κs = search needs
 
 array-write-marks : tie.Need-array-write-marks Inv-loop μ-loop
 unfolding kind tx obj steps
-array-write-marks c = 
+array-write-marks c =
     let at = c .before .before .before .before .before .before .before in
     let z : tx (at .before .before .args .log .now) (at .loop .i) < 129 = let y : tx (at .before .before .args .log .now) (at .loop .i) ≤ transactions = well-formed _ (at .loop .inv .2) .range (at .loop .i) (omega arith) .1 in omega arith in
     rw (c .index .ensures) z
@@ -77,15 +77,18 @@ loop-less c = omega arith
 
 loop-again : tie.Need-loop-again Inv-loop μ-loop
 unfolding writes kind tx obj steps
-loop-again c = 
+loop-again c =
     let at = c .before .before .before in
     let a = at .before .before .args in
     let i : ℕ = at .loop .i in
-    let log : List ℕ = a .log .now in
-    (refl, omega arith, at .loop .inv .2,
-    ⊎-elim (λ w. rw (w .5) (length-set (at .loop .marks) (w .4 .result) 1 ∙ at .loop .inv .3)) (⊎-elim (λ w. rw (w .3) (at .loop .inv .3)) (λ w. rw (w .1) (at .loop .inv .3))) (c .if1 .came),
-    ⊎-elim (λ w. rw (w .5, w .4 .ensures) (mark-step (λ d j. writes log d (a .x) j) i (at .loop .inv .4) (tx log i) (let z : tx log i ≤ transactions = well-formed log (at .loop .inv .2) .range i (omega arith) .1 in omega (arith, at .loop .inv .3)) (→and (→and (→is (w .0 .taken)) (→is refl)) (→is (w .2 .taken))) (λ d n. and-no-left _ (and-no-right _ (→isnt (λ q. n (sym q)))))))
-    (⊎-elim (λ w. rw (w .3) (mark-skip (λ d j. writes log d (a .x) j) i (at .loop .inv .4) (λ d. and-no-right _ (→isnt (w .2 .left))))) (λ w. rw (w .1) (mark-skip (λ d j. writes log d (a .x) j) i (at .loop .inv .4) (λ d. and-no-left _ (and-no-left _ (→isnt (w .0 .left))))))) (c .if1 .came))
+    let log : List ℕ = a .log .now in (
+      refl,
+      omega arith,
+      at .loop .inv .2,
+      ⊎-elim (λ w. rw (w .5) (length-set (at .loop .marks) (w .4 .result) 1 ∙ at .loop .inv .3)) (⊎-elim (λ w. rw (w .3) (at .loop .inv .3)) (λ w. rw (w .1) (at .loop .inv .3))) (c .if1 .came),
+      ⊎-elim (λ w. rw (w .5, w .4 .ensures) (mark-step (λ d j. writes log d (a .x) j) i (at .loop .inv .4) (tx log i) (let z : tx log i ≤ transactions = well-formed log (at .loop .inv .2) .range i (omega arith) .1 in omega (arith, at .loop .inv .3)) (→and (→and (→is (w .0 .taken)) (→is refl)) (→is (w .2 .taken))) (λ d n. and-no-left _ (and-no-right _ (→isnt (λ q. n (sym q)))))))
+          (⊎-elim (λ w. rw (w .3) (mark-skip (λ d j. writes log d (a .x) j) i (at .loop .inv .4) (λ d. and-no-right _ (→isnt (w .2 .left))))) (λ w. rw (w .1) (mark-skip (λ d j. writes log d (a .x) j) i (at .loop .inv .4) (λ d. and-no-left _ (and-no-left _ (→isnt (w .0 .left))))))) (c .if1 .came),
+    )
 
 returns : tie.Need-returns Inv-loop μ-loop
 unfolding writer steps
