@@ -15,28 +15,16 @@ use Rattle.verdict.specs.declared.CleanAnswer.the-variants as clean-answ
 use Rattle.verdict.specs.Clean.{Fault, aborted-at, unfinal-at, Cleanness, clean, unclean, judged, judged-other, writes-later, final-source, faulty-read, is-clean, fault-at, cleanness}
 
 module _ (log : List ℕ) (i : ℕ) where
-  pub not-a-read : (kind log i ≡ 2 → ⊥) → faulty-read log i ≡ false
-  unfolding faulty-read judged-other judged reads
-  not-a-read k = and-no-left _ (and-no-left _ (and-no-left _ (→isnt k)))
-
-  pub own-read : src log i ≡ tx log i → faulty-read log i ≡ false
-  unfolding faulty-read judged-other
-  own-read e = and-no-left _ (and-no-right _ (→not-fails (→is e)))
-
-  pub not-committed : committed log (tx log i) ≡ false → faulty-read log i ≡ false
-  unfolding faulty-read judged-other judged
-  not-committed c = and-no-left _ (and-no-left _ (and-no-right _ c))
+  pub not-faulty : judged-other log i ≡ false → faulty-read log i ≡ false
+  unfolding faulty-read
+  not-faulty j = and-no-left _ j
 
   pub source-zero : src log i ≡ 0 → faulty-read log i ≡ false
   unfolding faulty-read final-source
   source-zero z = and-no-right _ (→not-fails (→or-left _ (→is z)))
 
   -- a judged read from another than 0
-  module _ (k : kind log i ≡ 2) (n : src log i ≡ tx log i → ⊥) (z : src log i ≡ 0 → ⊥) (c : committed log (tx log i) ≡ true) where
-    is-judged : judged-other log i ≡ true
-    unfolding judged-other judged reads
-    is-judged = →and (→and (→is k) c) (→fails (→isnt n))
-
+  module _ (is-judged : judged-other log i ≡ true) (z : src log i ≡ 0 → ⊥) where
     pub source-open : committed log (src log i) ≡ false → faulty-read log i ≡ true
     unfolding faulty-read final-source
     source-open u = →and is-judged (→fails (or-false (→isnt z) ∙ and-no-left _ u))

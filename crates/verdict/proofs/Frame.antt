@@ -6,7 +6,7 @@ use lib.ListN.{length}
 use Rattle.graph.specs.Lists.{zeros, entries}
 use Rattle.graph.proofs.Truth.{not-fails→, is→}
 use Rattle.verdict.specs.Limits.{work-bytes, witness-entries}
-use Rattle.verdict.specs.Refusal.{taken, _else-try_, work-refusal, witness-refusal, log-refusal}
+use Rattle.verdict.specs.Refusal.{Refusal, taken, refused, _else-try_, work-refusal, witness-refusal}
 use Rattle.verdict.specs.declared.Checked.{Checked}
 use Rattle.verdict.specs.declared.Checked.the-variants as checked
 use Rattle.verdict.specs.Answer as answer
@@ -28,23 +28,30 @@ pub witness-length : (witness : List ℕ) → witness-refusal witness ≡ taken 
 unfolding witness-refusal
 witness-length witness e = is→ (not-fails→ (when→ 12 0 _ e))
 
--- a call with a witness: what the check of the buffers and the log tells
-module _ (log work witness : List ℕ) {r : Checked} (told : r ≡ said-refusal (work-refusal work else-try witness-refusal witness else-try log-refusal log)) where
-  all-taken : r ≡ checked.Passed → (work-refusal work else-try witness-refusal witness else-try log-refusal log) ≡ taken
-  all-taken e = said-passed _ (sym told ∙ e)
+-- a call with a witness that is taken: both buffers have the right length, and nothing else turns it away
+pub record Admitted (rest : Refusal) (work witness : List ℕ) : Type 0 where
+  pub taken-all : (work-refusal work else-try witness-refusal witness else-try rest) ≡ taken
+  pub work-size : length work ≡ work-bytes
+  pub witness-size : length witness ≡ witness-entries
+  pub well : rest ≡ taken
 
-  pub admitted : r ≡ checked.Passed → (log-refusal log ≡ taken) × (length work ≡ work-bytes) × (length witness ≡ witness-entries)
+module _ (rest : Refusal) (work witness : List ℕ) {r : Checked} (told : r ≡ said-refusal (work-refusal work else-try witness-refusal witness else-try rest)) where
+  pub admitted : r ≡ checked.Passed → Admitted rest work witness
   admitted e =
-      let first = else-try→ (all-taken e) in
-      let second = else-try→ (first .1) in
-      (second .1, work-length work (first .0), witness-length witness (second .0))
+      let t = said-passed _ (sym told ∙ e) in
+      let later = else-try→ (else-try→ t .1) in
+      record { taken-all = t; work-size = work-length work (else-try→ t .0); witness-size = witness-length witness (later .0); well = later .1 }
 
+  pub not-admitted : {n p : ℕ} → r ≡ checked.Refused n p → refused n p ≡ (work-refusal work else-try witness-refusal witness else-try rest)
+  not-admitted e = sym (said-refused _ (sym told ∙ e))
+
+  -- .. and so the call
   module _ (verdict : answer.Answer → Type 0) where
-    pub call-answered : r ≡ checked.Passed → {a : Answer} {work′ witness′ : List ℕ} → Answers verdict a work′ witness′ → WitnessCall (log-refusal log) verdict work witness a work′ witness′
-    call-answered e x = answered (x .given) (sym (all-taken e)) (x .right) (x .says) (x .leaves)
+    pub call-answered : r ≡ checked.Passed → {a : Answer} {work′ witness′ : List ℕ} → Answers verdict a work′ witness′ → WitnessCall rest verdict work witness a work′ witness′
+    call-answered e x = answered (x .given) (sym (admitted e .taken-all)) (x .right) (x .says) (x .leaves)
 
-    pub call-refused : {n p : ℕ} → r ≡ checked.Refused n p → WitnessCall (log-refusal log) verdict work witness (the-answer.Refused n p) work witness
-    call-refused e = turned-away _ _ (sym (said-refused _ (sym told ∙ e))) refl refl
+    pub call-refused : {n p : ℕ} → r ≡ checked.Refused n p → WitnessCall rest verdict work witness (the-answer.Refused n p) work witness
+    call-refused e = turned-away _ _ (not-admitted e) refl refl
 
 -- a cleared work area is all zeros
 pub work-left : {A : Type 0} (a : A) (work work′ : List ℕ) → work-refusal work ≡ taken → work′ ≡ zeros (length work) → work′ ∷ [] ≡ leaves-work a
@@ -56,3 +63,9 @@ pub nothing-left : (f : Fault) (work witness : List ℕ) {work′ witness′ : L
     → work′ ≡ zeros (length work) → witness′ ≡ zeros (length witness) → work′ ∷ witness′ ∷ [] ≡ leaves-witness (answer.unclean-by f)
 unfolding leaves-witness witness-of entries
 nothing-left f work witness p q e g = rw (e, g, p, q) refl
+
+-- .. and a witness as the answer has it
+pub witness-left : {rest : Refusal} {work witness work′ witness′ : List ℕ} → Admitted rest work witness → (a : answer.Answer) → work′ ≡ zeros (length work) → witness′ ≡ entries witness-entries (witness-of a)
+    → work′ ∷ witness′ ∷ [] ≡ leaves-witness a
+unfolding leaves-witness
+witness-left t a e g = rw (e, g, t .work-size) refl

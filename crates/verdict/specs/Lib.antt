@@ -14,3 +14,4 @@ pub mod Listing
 pub mod Said
 pub mod Call
 pub mod Walk
+pub mod Placing

@@ -2,13 +2,17 @@
 mod cleanness;
 mod conflict_graph;
 mod edges;
+mod exactness;
 mod limits;
 mod refusal;
+mod search;
+mod snapshots;
 mod version_graph;
 mod walk;
 
 pub use cleanness::clean;
 pub use conflict_graph::conflict;
+pub use exactness::exact;
 pub use limits::Log;
 pub use limits::MadeLog;
 pub use limits::MadeObject;
@@ -16,6 +20,7 @@ pub use limits::MadeTransaction;
 pub use limits::Object;
 pub use limits::Transaction;
 pub use refusal::check;
+pub use snapshots::snapshot;
 pub use version_graph::version;
 pub use walk::committed;
 

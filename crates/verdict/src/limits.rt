@@ -22,6 +22,12 @@ impl Transaction {
     // How many entries a table has that has one for each transaction and one for writer 0.
     pub const TABLE: usize = Transaction::COUNT + 1;
 
+    // How many committed transactions the exact search takes.
+    pub const SEARCHED: usize = 8;
+
+    // How many entries a table has that has one for each of these and each object.
+    pub const PAIRS: usize = Transaction::TABLE * Object::TABLE;
+
     // The transaction of this number, which is 1 to the limit.
     pub fn of(number: u16) -> MadeTransaction
         ensures { λ r. ⌜ r ≡ make-transaction number ⌝ }

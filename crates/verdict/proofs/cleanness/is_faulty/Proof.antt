@@ -3,7 +3,8 @@ use borrow.Author.Needs.{needs}
 use Rattle.verdict.specs.Log.{steps, kind, tx, obj, src, commits, committed}
 use Rattle.verdict.specs.Walk.{does}
 use borrow.Author.Tests.{not-true, not-false}
-use Rattle.verdict.proofs.Faults.{not-a-read, own-read, not-committed, source-zero, source-open, source-later, later-from}
+use Rattle.verdict.proofs.Judged.{other-kind, own-source, reader-fails, judged-read}
+use Rattle.verdict.proofs.Faults.{not-faulty, source-zero, source-open, source-later, later-from}
 use Rattle.verdict.proofs.cleanness.is_faulty.Statement.{statement}
 use Rattle.verdict.proofs.cleanness.is_faulty.Tie as tie
 
@@ -18,7 +19,7 @@ shared-slice-read-if1 c = search needs
 
 returns : tie.Need-returns
 unfolding committed commits does steps kind tx obj src
-returns c = sym (not-a-read _ _ (c .if1 .taken))
+returns c = sym (not-faulty _ _ (other-kind _ _ (c .if1 .taken)))
 
 mul-t : tie.Need-mul-t
 mul-t c = search needs
@@ -46,7 +47,7 @@ shared-slice-read-s c = search needs
 
 returns-2 : tie.Need-returns-2
 unfolding committed commits does steps kind tx obj src
-returns-2 c = sym (own-read _ _ (c .if2 .taken))
+returns-2 c = sym (not-faulty _ _ (own-source _ _ (c .if2 .taken)))
 
 returns-3 : tie.Need-returns-3
 unfolding committed commits does steps kind tx obj src
@@ -57,7 +58,7 @@ seen-requires c κs = search needs
 
 returns-4 : tie.Need-returns-4
 unfolding committed commits does steps kind tx obj src
-returns-4 c = sym (not-committed _ _ (sym (c .before .seen .ensures) ∙ not-true _ (c .if4 .taken)))
+returns-4 c = sym (not-faulty _ _ (reader-fails _ _ (sym (c .before .seen .ensures) ∙ not-true _ (c .if4 .taken))))
 
 seen-requires-2 : tie.Need-seen-requires-2
 seen-requires-2 c κs = search needs
@@ -65,8 +66,8 @@ seen-requires-2 c κs = search needs
 returns-5 : tie.Need-returns-5
 unfolding committed commits does steps kind tx obj src
 returns-5 c =
-    sym (source-open _ _ (c .before .before .before .before .before .before .before .before .if1 .left) (c .before .before .before .before .before .if2 .left) (c .before .before .before .before .if3 .left)
-    (sym (c .before .before .before .seen .ensures) ∙ not-false _ (c .before .before .if4 .left)) (sym (c .before .seen2 .ensures) ∙ not-true _ (c .if5 .taken)))
+    sym (source-open _ _ (judged-read _ _ (c .before .before .before .before .before .before .before .before .if1 .left) (c .before .before .before .before .before .if2 .left) (sym (c .before .before .before .seen .ensures) ∙ not-false _ (c .before .before .if4 .left)))
+    (c .before .before .before .before .if3 .left) (sym (c .before .seen2 .ensures) ∙ not-true _ (c .if5 .taken)))
 
 add-writes-within : tie.Need-add-writes-within
 add-writes-within c = search needs
@@ -89,8 +90,8 @@ writes-within-requires c κs = search needs
 returns-6 : tie.Need-returns-6
 unfolding committed commits does steps kind tx obj src
 returns-6 c =
-    c .writes-within .ensures ∙ sym (source-later _ _ (c .before .before .before .before .before .before .before .before .before .before .if1 .left) (c .before .before .before .before .before .before .before .if2 .left) (c .before .before .before .before .before .before .if3 .left)
-    (sym (c .before .before .before .before .before .seen .ensures) ∙ not-false _ (c .before .before .before .before .if4 .left)) (sym (c .before .before .before .seen2 .ensures) ∙ not-false _ (c .before .before .if5 .left)) ∙ later-from _ _ _ _)
+    c .writes-within .ensures ∙ sym (source-later _ _ (judged-read _ _ (c .before .before .before .before .before .before .before .before .before .before .if1 .left) (c .before .before .before .before .before .before .before .if2 .left) (sym (c .before .before .before .before .before .seen .ensures) ∙ not-false _ (c .before .before .before .before .if4 .left)))
+    (c .before .before .before .before .before .before .if3 .left) (sym (c .before .before .before .seen2 .ensures) ∙ not-false _ (c .before .before .if5 .left)) ∙ later-from _ _ _ _)
 
 pub is-faulty-spec : {M : Type 1} → statement M
 is-faulty-spec =

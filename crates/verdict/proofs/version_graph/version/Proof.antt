@@ -1,5 +1,5 @@
 use Rattle.verdict.specs.Limits.{transactions}
-use Rattle.verdict.specs.Refusal.{work-refusal, witness-refusal}
+use Rattle.verdict.specs.Refusal.{work-refusal, witness-refusal, log-refusal}
 use Rattle.verdict.specs.Version.{Version}
 use Rattle.verdict.proofs.Frame.{admitted, call-answered, call-refused}
 use borrow.Author.Needs.{needs}
@@ -19,13 +19,14 @@ judge-version-requires : tie.Need-judge-version-requires
 unfolding work-refusal witness-refusal
 judge-version-requires c κs = let here = c .before .before .before .before .before .before .before .before in
     let a = here .args in
-    admitted (a .log .now) (a .work .now) (a .witness .now) (c .before .before .before .before .admit-witness .ensures) (c .before .before .enum-told .given .1)
+    let t = admitted (log-refusal (a .log .now)) (a .work .now) (a .witness .now) (c .before .before .before .before .admit-witness .ensures) (c .before .before .enum-told .given .1) in
+    (t .well, t .work-size, t .witness-size)
 
 returns : tie.Need-returns
 unfolding work-refusal witness-refusal
 returns c = let here = c .before .before .before .before .before .before .before in
     let a = here .args in
-    call-refused (a .log .now) (a .work .now) (a .witness .now) (c .before .before .before .admit-witness .ensures) (Version transactions (a .log .now)) (c .before .admitted .given .1)
+    call-refused (log-refusal (a .log .now)) (a .work .now) (a .witness .now) (c .before .before .before .admit-witness .ensures) (Version transactions (a .log .now)) (c .before .admitted .given .1)
 
 same-length : tie.Need-same-length
 same-length c = search needs
@@ -37,7 +38,7 @@ returns-2 : tie.Need-returns-2
 unfolding work-refusal witness-refusal
 returns-2 c = let here = c .before .before .before .before .before .before .before .before .before .before .before .before .before in
     let a = here .args in
-    call-answered (a .log .now) (a .work .now) (a .witness .now) (c .before .before .before .before .before .before .before .before .before .admit-witness .ensures) (Version transactions (a .log .now)) (c .before .before .before .before .before .before .before .enum-told .given .1) (c .before .before .before .before .judge-version .ensures)
+    call-answered (log-refusal (a .log .now)) (a .work .now) (a .witness .now) (c .before .before .before .before .before .before .before .before .before .admit-witness .ensures) (Version transactions (a .log .now)) (c .before .before .before .before .before .before .before .enum-told .given .1) (c .before .before .before .before .judge-version .ensures)
 
 pub version-spec : {M : Type 1} → statement M
 version-spec =

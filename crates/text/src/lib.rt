@@ -1,0 +1,93 @@
+// The text reader, and numbers in decimal.
+mod decimal;
+mod line;
+mod number;
+
+ghost use mathlib.Core.Path.{_≡_};
+ghost use mathlib.Core.List.{_++_};
+ghost use Prim.Native.Nat.{_-_, _≤_};
+ghost use lib.ListN.{length, take, drop};
+ghost use Rattle.graph.specs.Lists.{zeros};
+ghost use Rattle.verdict.specs.Limits.{most-steps};
+ghost use Rattle.text.specs.Line.{header};
+ghost use Rattle.text.specs.Reading.{Reading};
+ghost use Rattle.text.specs.ReadCall.{step-entries, ReadsCall, ReadCall};
+use crate::line::Lines;
+use crate::line::pass;
+use crate::number::Number;
+use crate::number::item_at;
+use verdict::Log;
+
+// A text, by how many bytes it has.
+pub struct Text {
+    pub length: usize,
+}
+
+impl Text {
+    pub const LIMIT: usize = 33803;
+}
+
+// What reading a text answers: a refusal with its number and its place, or how many steps were read.
+pub enum ReadAnswer {
+    Refused(u16, usize),
+    Steps(usize),
+}
+
+// Reads the text's steps into the buffer. A refusal leaves the buffer as it was.
+pub fn read(text: &[u8], steps: &mut [u16]) -> ReadAnswer
+    ensures { λ r. ⌜ ReadCall (now (text .entry)) (now (steps .entry)) r (now (steps .exit)) ⌝ }
+{
+    if steps.len() != 4 * Log::LIMIT {
+        return ReadAnswer::Refused(12, 0);
+    }
+    if Text::LIMIT < text.len() {
+        return ReadAnswer::Refused(15, 0);
+    }
+    read_header(text, steps)
+}
+
+// Reads a text from its header on.
+fn read_header(text: &[u8], steps: &mut [u16]) -> ReadAnswer
+    requires { ⌜ length (now steps) ≡ step-entries ⌝ }
+    ensures { λ r. ⌜ ReadsCall (Reading (now (text .entry))) (now (text .entry)) (now (steps .entry)) r (now (steps .exit)) ⌝ }
+{
+    let Number::At(count, at) = item_at(text, 0, b"steps=", b'\n') else {
+        return ReadAnswer::Refused(16, 0);
+    };
+    let n = count as usize;
+    if Log::LIMIT < n {
+        return ReadAnswer::Refused(2, 0);
+    }
+    read_steps(text, at, n, steps)
+}
+
+// Reads the n lines behind a header: first a pass that only looks, and then, where the text is in form, one that fills the buffer.
+fn read_steps(text: &[u8], at: usize, n: usize, steps: &mut [u16]) -> ReadAnswer
+    requires { ⌜ (at ≤ length (now text)) × (now text ≡ header n ++ drop at (now text)) × (n ≤ most-steps) × (length (now steps) ≡ step-entries) ⌝ }
+    ensures { λ r. ⌜ ReadsCall (Reading (now (text .entry))) (now (text .entry)) (now (steps .entry)) r (now (steps .exit)) ⌝ }
+{
+    let seen = pass(text, at, n, steps, false);
+    match seen {
+        Lines::Bad(i) => ReadAnswer::Refused(16, i + 1),
+        Lines::To(end) => {
+            if end < text.len() {
+                return ReadAnswer::Refused(16, n + 1);
+            }
+            pass(text, at, n, steps, true);
+            clear_from(steps, 4 * n);
+            ReadAnswer::Steps(n)
+        }
+    }
+}
+
+// Sets every entry from this one on to 0.
+fn clear_from(steps: &mut [u16], from: usize)
+    requires { ⌜ from ≤ length (now steps) ⌝ }
+    ensures { λ _. ⌜ now (steps .exit) ≡ take from (now (steps .entry)) ++ zeros (length (now (steps .entry)) - from) ⌝ }
+{
+    let mut i = from;
+    while i < steps.len() {
+        steps[i] = 0;
+        i += 1;
+    }
+}
