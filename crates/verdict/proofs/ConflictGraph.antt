@@ -5,13 +5,17 @@ use mathlib.Core.List.{List}
 use Prim.Native.Nat.{ℕ, suc, _≤_}
 use native.Mathlib.Omega.{arith}
 use Rattle.graph.specs.Tests.{_is_, _or_, some}
+use Rattle.graph.specs.Matrix.{takes-part, joined}
 use Rattle.graph.proofs.Truth.{same-test, and→, →and, and-no-left, and-no-right, and-true, →or-left, →or-right, or-no, or-false, →fails, fails→, isnt→, is→, →is, →isnt, some→, →some, →none}
+use Rattle.verdict.specs.Limits.{transactions}
 use Rattle.verdict.specs.Log.{steps, kind, tx, obj, committed}
-use Rattle.verdict.specs.Conflict.{touches, meet, conflict-edge}
-use Rattle.verdict.specs.Walk.{one-edge, conflict-pair, conflicts-until}
+use Rattle.verdict.specs.Answer.{shown}
+use Rattle.verdict.specs.Conflict.{touches, meet, conflict-edge, Conflict, conflict}
+use Rattle.verdict.specs.declared.Answer.{Answer}
+use Rattle.verdict.specs.Walk.{one-edge, conflict-pair, conflicts-until, Matrix, Committed, Showing, Answers}
 use Rattle.verdict.proofs.WellFormed.{Well}
 use Rattle.verdict.proofs.Versions.{committed-range}
-use Rattle.verdict.proofs.Matrices.{Kept, one-edge→, →one-edge, Between}
+use Rattle.verdict.proofs.Matrices.{Kept, one-edge→, →one-edge, Between, shown-of}
 
 -- WHICH STEPS MEET
 module _ (log : List ℕ) (i j : ℕ) where
@@ -95,3 +99,10 @@ conflict-between log =
       from = λ a b h. and→ (and→ (and→ h .0) .0) .1;
       to = λ a b h. and→ (and→ h .0) .1;
     }
+
+-- what is shown of the matrix is the verdict's answer
+pub conflict-answer : {log m part work witness : List ℕ} {r : Answer} → Committed log part → Matrix (conflict-edge log) m
+    → Showing (takes-part transactions part) (joined transactions m part) r work witness → Answers (Conflict transactions log) r work witness
+conflict-answer {log} marks drawn s =
+    let t = shown-of marks drawn (conflict-between log) s in
+    record { given = shown (t .shown); right = conflict (t .right); says = t .says; leaves = t .leaves }

@@ -12,7 +12,10 @@ use Rattle.verdict.specs.declared.Checked.the-variants as checked
 use Rattle.verdict.specs.Answer as answer
 use Rattle.verdict.specs.Clean.{Fault}
 use Rattle.verdict.specs.Said.{said-refusal, witness as witness-of}
-use Rattle.verdict.specs.Call.{Call, turned-away, answered, leaves-work, leaves-witness}
+use Rattle.verdict.specs.Call.{Call, turned-away, answered, leaves-work, leaves-witness, WitnessCall}
+use Rattle.verdict.specs.Walk.{Answers}
+use Rattle.verdict.specs.declared.Answer.{Answer}
+use Rattle.verdict.specs.declared.Answer.the-variants as the-answer
 use Rattle.verdict.proofs.WellFormed.{else-try→, when→}
 use Rattle.verdict.proofs.Steps.{said-refused, said-passed}
 
@@ -42,16 +45,24 @@ module _ (rest : Refusal) (work witness : List ℕ) {r : Checked} (told : r ≡ 
   pub not-admitted : {n p : ℕ} → r ≡ checked.Refused n p → refused n p ≡ (work-refusal work else-try witness-refusal witness else-try rest)
   not-admitted e = sym (said-refused _ (sym told ∙ e))
 
+  -- .. and so the call
+  module _ (verdict : answer.Answer → Type 0) where
+    pub call-answered : r ≡ checked.Passed → {a : Answer} {work′ witness′ : List ℕ} → Answers verdict a work′ witness′ → WitnessCall rest verdict work witness a work′ witness′
+    call-answered e x = answered (x .given) (sym (admitted e .taken-all)) (x .right) (x .says) (x .leaves)
+
+    pub call-refused : {n p : ℕ} → r ≡ checked.Refused n p → WitnessCall rest verdict work witness (the-answer.Refused n p) work witness
+    call-refused e = turned-away _ _ (not-admitted e) refl refl
+
 -- a cleared work area is all zeros
 pub work-left : {A : Type 0} (a : A) (work work′ : List ℕ) → work-refusal work ≡ taken → work′ ≡ zeros (length work) → work′ ∷ [] ≡ leaves-work a
 unfolding leaves-work
 work-left a work work′ e c = ap (λ (l : List ℕ). l ∷ []) (c ∙ ap zeros (work-length work e))
 
 -- .. and a cleared witness is empty
-pub nothing-left : {rest : Refusal} {work witness work′ witness′ : List ℕ} → Admitted rest work witness → (f : Fault) → work′ ≡ zeros (length work) → witness′ ≡ zeros (length witness)
-    → work′ ∷ witness′ ∷ [] ≡ leaves-witness (answer.unclean-by f)
+pub nothing-left : (f : Fault) (work witness : List ℕ) {work′ witness′ : List ℕ} → length work ≡ work-bytes → length witness ≡ witness-entries
+    → work′ ≡ zeros (length work) → witness′ ≡ zeros (length witness) → work′ ∷ witness′ ∷ [] ≡ leaves-witness (answer.unclean-by f)
 unfolding leaves-witness witness-of entries
-nothing-left a f e g = rw (e, g, a .work-size, a .witness-size) refl
+nothing-left f work witness p q e g = rw (e, g, p, q) refl
 
 -- .. and a witness as the answer has it
 pub witness-left : {rest : Refusal} {work witness work′ witness′ : List ℕ} → Admitted rest work witness → (a : answer.Answer) → work′ ≡ zeros (length work) → witness′ ≡ entries witness-entries (witness-of a)

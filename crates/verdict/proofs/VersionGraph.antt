@@ -6,16 +6,19 @@ use mathlib.Core.List.{List}
 use Prim.Native.Nat.{ℕ, suc, _≤_, _<_}
 use native.Mathlib.Omega.{arith}
 use Rattle.graph.specs.Tests.{_is_, _below_, _and_, _or_, some}
+use Rattle.graph.specs.Matrix.{takes-part, joined}
 use Rattle.graph.proofs.Truth.{decide, same-test, and→, →and, and-true, and-no-left, and-no-right, or→, →or-left, →or-right, or-no, or-false, →fails, fails→, is→, isnt→, →is, →isnt, →below, below→, →not-below, →upto, →not-upto, if-true, if-false, some→, →some, →none, none→, none-below, lowest-at, lowest-none}
 use Rattle.verdict.specs.Limits.{transactions}
 use Rattle.verdict.specs.Log.{steps, kind, tx, obj, src, reads, writes, committed, writer, commits-writer}
-use Rattle.verdict.specs.Clean.{judged, is-clean}
-use Rattle.verdict.specs.Version.{after, next-commit, next-version, writer-to-next, source-to-reader, reader-to-next, version-edge}
-use Rattle.verdict.specs.Walk.{one-edge, with-edge, next-writer, write-edges, read-edges, version-step, versions-until, Matrix}
+use Rattle.verdict.specs.Clean.{clean, cleanness, judged, is-clean}
+use Rattle.verdict.specs.Answer.{shown}
+use Rattle.verdict.specs.Version.{after, next-commit, next-version, writer-to-next, source-to-reader, reader-to-next, version-edge, Version, version}
+use Rattle.verdict.specs.declared.Answer.{Answer}
+use Rattle.verdict.specs.Walk.{one-edge, with-edge, next-writer, write-edges, read-edges, version-step, versions-until, Matrix, Committed, Showing, Answers}
 use Rattle.verdict.proofs.WellFormed.{Well}
 use Rattle.verdict.proofs.Versions.{candidate, next→}
-use Rattle.verdict.proofs.Judge.{version-ends}
-use Rattle.verdict.proofs.Matrices.{Kept, one-edge→, →one-edge, same-edges, edge-more, edges-more, Between}
+use Rattle.verdict.proofs.Judge.{cleanness-clean, version-ends}
+use Rattle.verdict.proofs.Matrices.{Kept, one-edge→, →one-edge, same-edges, edge-more, edges-more, Between, shown-of}
 
 -- THE WRITER OF THE NEXT VERSION
 module _ (log : List ℕ) (x v : ℕ) where
@@ -205,3 +208,10 @@ module _ {most : ℕ} (log : List ℕ) (well : Well most log) (cl : is-clean log
     where
       source : (a b : ℕ) → source-to-reader log a b ≡ true → committed log b ≡ true
       source a b w = let r = some→ w in rw (is→ {m = tx log (r .0)} {n = b} (and→ (r .2) .1)) at (and→ (and→ (and→ (r .2) .0) .0) .1)
+
+-- what is shown of the matrix is the verdict's answer
+pub version-answer : {log m part work witness : List ℕ} {r : Answer} → Well transactions log → cleanness log ≡ clean → Committed log part → Matrix (version-edge log) m
+    → Showing (takes-part transactions part) (joined transactions m part) r work witness → Answers (Version transactions log) r work witness
+version-answer {log} well e marks drawn s =
+    let t = shown-of marks drawn (version-between log well (cleanness-clean log e)) s in
+    record { given = shown (t .shown); right = version e (t .right); says = t .says; leaves = t .leaves }

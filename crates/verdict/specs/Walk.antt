@@ -79,7 +79,14 @@ pub record Matrix (edge : ℕ → ℕ → Bool) (m : List ℕ) : Type 0 where
   pub size : length m ≡ work-bytes
   pub byte : (a b : ℕ) → (1 ≤ a) × (a ≤ transactions) → (1 ≤ b) × (b ≤ transactions) → fails (getD m (byte-at a b) 0 is 0) ≡ edge a b
 
--- what is shown of a graph, and what that leaves in the lent buffers
+-- an answer of a verdict with a witness, and what it leaves in the lent buffers
+pub record Answers (verdict : answer.Answer → Type 0) (r : Answer) (work witness : List ℕ) : Type 0 where
+  pub given : answer.Answer
+  pub right : verdict given
+  pub says : r ≡ said given
+  pub leaves : work ∷ witness ∷ [] ≡ leaves-witness given
+
+-- what is shown of a graph, and what that leaves in them
 pub record Showing (node : ℕ → Bool) (edge : ℕ → ℕ → Bool) (r : Answer) (work witness : List ℕ) : Type 0 where
   pub shown : Shown
   pub right : Shows (suc transactions) node edge shown

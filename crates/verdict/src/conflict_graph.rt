@@ -11,10 +11,11 @@ use crate::walk::clear;
 ghost use mathlib.Core.Path.{_≡_};
 ghost use Prim.Native.Nat.{suc, _≤_, _+_, _*_};
 ghost use lib.ListN.{length};
+ghost use Rattle.verdict.specs.Limits.{transactions, witness-entries, work-bytes};
 ghost use Rattle.verdict.specs.Refusal.{taken, log-refusal};
-ghost use Rattle.verdict.specs.Conflict.{meet, conflict-edge};
+ghost use Rattle.verdict.specs.Conflict.{meet, conflict-edge, Conflict};
 ghost use Rattle.verdict.specs.Call.{ConflictCall};
-ghost use Rattle.verdict.specs.Walk.{no-edge, conflicts-until, Committed, Matrix};
+ghost use Rattle.verdict.specs.Walk.{no-edge, conflicts-until, Committed, Matrix, Answers};
 
 // Whether steps i and j touch one object, at least one writing.
 fn meets(log: &[u16], i: usize, j: usize) -> bool
@@ -69,6 +70,17 @@ pub fn draw(log: &[u16], work: &mut [u8], part: &[u8; Transaction::COUNT])
     }
 }
 
+// The conflict verdict of a well-formed log.
+fn judge_conflict(log: &[u16], work: &mut [u8], witness: &mut [u16]) -> Answer
+    requires { ⌜ (log-refusal (now log) ≡ taken) × (length (now work) ≡ work-bytes) × (length (now witness) ≡ witness-entries) ⌝ }
+    ensures { λ r. ⌜ Answers (Conflict transactions (now (log .entry))) r (now (work .exit)) (now (witness .exit)) ⌝ }
+{
+    clear(work);
+    let part = committed_ones(log);
+    draw(log, work, &part);
+    show(work, witness, part)
+}
+
 // The conflict verdict: the first order that keeps every edge, or the first shortest cycle.
 pub fn conflict(log: &[u16], work: &mut [u8], witness: &mut [u16]) -> Answer
     ensures { λ r. ⌜ ConflictCall (now (log .entry)) (now (work .entry)) (now (witness .entry)) r (now (work .exit)) (now (witness .exit)) ⌝ }
@@ -76,11 +88,6 @@ pub fn conflict(log: &[u16], work: &mut [u8], witness: &mut [u16]) -> Answer
     let admitted = admit_witness(log, work.len(), witness.len());
     match admitted {
         Checked::Refused(number, place) => Answer::Refused(number, place),
-        Checked::Passed => {
-            clear(work);
-            let part = committed_ones(log);
-            draw(log, work, &part);
-            show(work, witness, part)
-        }
+        Checked::Passed => judge_conflict(log, work, witness),
     }
 }

@@ -18,12 +18,12 @@ use crate::walk::writers;
 ghost use mathlib.Core.Path.{_≡_};
 ghost use Prim.Native.Nat.{suc, _≤_, _+_, _*_};
 ghost use lib.ListN.{length};
-ghost use Rattle.verdict.specs.Limits.{work-bytes};
+ghost use Rattle.verdict.specs.Limits.{transactions, witness-entries, work-bytes};
 ghost use Rattle.verdict.specs.Log.{kind, tx, obj, src};
 ghost use Rattle.verdict.specs.Refusal.{taken, log-refusal};
-ghost use Rattle.verdict.specs.Version.{after, version-edge};
+ghost use Rattle.verdict.specs.Version.{after, version-edge, Version};
 ghost use Rattle.verdict.specs.Call.{VersionCall};
-ghost use Rattle.verdict.specs.Walk.{no-edge, next-writer, with-edge, versions-until, Committed, Matrix};
+ghost use Rattle.verdict.specs.Walk.{no-edge, next-writer, with-edge, versions-until, Committed, Matrix, Answers};
 
 // From which step on a version after v's may be committed.
 fn after_version(log: &[u16], v: u16) -> usize
@@ -107,6 +107,22 @@ pub fn draw(log: &[u16], work: &mut [u8], part: &[u8; Transaction::COUNT])
     }
 }
 
+// The version verdict of a well-formed log.
+fn judge_version(log: &[u16], work: &mut [u8], witness: &mut [u16]) -> Answer
+    requires { ⌜ (log-refusal (now log) ≡ taken) × (length (now work) ≡ work-bytes) × (length (now witness) ≡ witness-entries) ⌝ }
+    ensures { λ r. ⌜ Answers (Version transactions (now (log .entry))) r (now (work .exit)) (now (witness .exit)) ⌝ }
+{
+    clear(work);
+    let judged = judge_clean(log);
+    if let CleanAnswer::Unclean(fault) = judged {
+        clear_witness(witness);
+        return Answer::Unclean(fault);
+    }
+    let part = committed_ones(log);
+    draw(log, work, &part);
+    show(work, witness, part)
+}
+
 // The version verdict: the fault of an unclean read, or else the first order that keeps every edge, or the first shortest cycle.
 pub fn version(log: &[u16], work: &mut [u8], witness: &mut [u16]) -> Answer
     ensures { λ r. ⌜ VersionCall (now (log .entry)) (now (work .entry)) (now (witness .entry)) r (now (work .exit)) (now (witness .exit)) ⌝ }
@@ -114,16 +130,6 @@ pub fn version(log: &[u16], work: &mut [u8], witness: &mut [u16]) -> Answer
     let admitted = admit_witness(log, work.len(), witness.len());
     match admitted {
         Checked::Refused(number, place) => Answer::Refused(number, place),
-        Checked::Passed => {
-            clear(work);
-            let judged = judge_clean(log);
-            if let CleanAnswer::Unclean(fault) = judged {
-                clear_witness(witness);
-                return Answer::Unclean(fault);
-            }
-            let part = committed_ones(log);
-            draw(log, work, &part);
-            show(work, witness, part)
-        }
+        Checked::Passed => judge_version(log, work, witness),
     }
 }

@@ -26,7 +26,7 @@ same-length-2 c = search needs
 returns : tie.Need-returns
 unfolding retold
 returns c = let here = c .before .before .before .before .before .before .before .before .before .before .before .before .before .before in
-    sorted (c .before .before .before .before .before .before .before .before .before .sort .ensures) (sym (ap retold (c .before .found .given .1))) (c .before .before .before .before .before .clear .ensures ∙ ap zeros (here .pre .0))
+    sorted {m = here .args .work .now} {part = here .args .part} (c .before .before .before .before .before .before .before .before .before .sort .ensures) (sym (ap retold (c .before .found .given .1))) (c .before .before .before .before .before .clear .ensures ∙ ap zeros (here .pre .0))
 
 same-length-3 : tie.Need-same-length-3
 same-length-3 c = search needs
@@ -37,7 +37,7 @@ same-length-4 c = search needs
 returns-2 : tie.Need-returns-2
 unfolding retold
 returns-2 c = let here = c .before .before .before .before .before .before .before .before .before .before .before .before .before .before in
-    sorted (c .before .before .before .before .before .before .before .before .before .sort .ensures) (sym (ap retold (c .before .found2 .given .1))) (c .before .before .before .before .before .clear .ensures ∙ ap zeros (here .pre .0))
+    sorted {m = here .args .work .now} {part = here .args .part} (c .before .before .before .before .before .before .before .before .before .sort .ensures) (sym (ap retold (c .before .found2 .given .1))) (c .before .before .before .before .before .clear .ensures ∙ ap zeros (here .pre .0))
 
 pub show-spec : {M : Type 1} → statement M
 show-spec =

@@ -54,7 +54,7 @@ returns c =
     let log : List ℕ = here .args .log .now in
     let a = admitted (log-refusal log else-try search-refusal log) (here .args .work .now) (here .args .witness .now) (c .before .before .before .before .before .before .before .before .before .before .before .before .before .before .admit-search .ensures) (c .before .before .before .before .before .before .before .before .before .before .before .before .enum-told .given .1) in
     let u = told-unclean (cleanness log) (sym (c .before .before .before .judge-clean .ensures) ∙ c .before .judged .given .1) in
-    answered (unclean-by (u .0)) (sym (a .taken-all)) (exact-unclean (u .1)) (ap Unclean (u .2)) (nothing-left a (u .0) (c .before .before .before .before .before .before .before .before .before .before .clear .ensures) (c .before .before .before .before .before .before .clear-witness .ensures))
+    answered (unclean-by (u .0)) (sym (a .taken-all)) (exact-unclean (u .1)) (ap Unclean (u .2)) (nothing-left (u .0) (here .args .work .now) (here .args .witness .now) (a .work-size) (a .witness-size) (c .before .before .before .before .before .before .before .before .before .before .clear .ensures) (c .before .before .before .before .before .before .clear-witness .ensures))
 
 find-order-requires : tie.Need-find-order-requires
 unfolding said-refusal work-refusal witness-refusal said search-refusal
