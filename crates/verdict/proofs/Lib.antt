@@ -8,7 +8,6 @@ pub mod WellFormed
 pub mod Frame
 pub mod Marks
 pub mod SnapshotLaws
-pub mod Loosely
 pub mod Versions
 pub mod Finds
 pub mod Center

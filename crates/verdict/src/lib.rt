@@ -2,7 +2,6 @@
 mod cleanness;
 mod limits;
 mod refusal;
-mod search;
 mod snapshots;
 mod walk;
 
