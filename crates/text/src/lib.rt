@@ -1,8 +1,12 @@
-// The text reader, and numbers in decimal.
+// The text reader and the report.
 mod decimal;
 mod line;
 mod number;
+mod put;
+mod report;
+mod report_line;
 
+pub use report::ReportAnswer;
 ghost use mathlib.Core.Path.{_≡_};
 ghost use mathlib.Core.List.{_++_};
 ghost use Prim.Native.Nat.{_-_, _≤_};

@@ -1,0 +1,40 @@
+-- What a call of `report` answers, and what it leaves in the lent buffers.
+use mathlib.Core.Path.{_≡_}
+use mathlib.Core.List.{List, [], _∷_}
+use Prim.Native.Nat.{ℕ}
+use lib.ListN.{length}
+use Rattle.graph.specs.Tests.{_is_, fails}
+use Rattle.graph.specs.Lists.{zeros, entries}
+use Rattle.verdict.specs.Limits.{witness-entries, work-bytes}
+use Rattle.verdict.specs.Refusal.{Refusal, _at_when_, _else-try_, work-refusal, witness-refusal}
+use Rattle.verdict.specs.Call.{Call}
+use Rattle.text.specs.ReadCall.{step-entries}
+use Rattle.text.specs.Report.{ReportOf}
+use Rattle.text.specs.declared.report.ReportAnswer.{ReportAnswer}
+use Rattle.text.specs.declared.report.ReportAnswer.the-variants as report-answer
+
+-- the buffer for a report has 2,048 bytes
+abbrev pub report-bytes : ℕ
+report-bytes = 2048
+
+-- 12: a lent buffer has a wrong length
+unfoldable pub buffers-refusal : (steps work witness out : List ℕ) → Refusal
+buffers-refusal steps work witness out =
+    12 at 0 when fails (length steps is step-entries)
+    else-try work-refusal work
+    else-try witness-refusal witness
+    else-try 12 at 0 when fails (length out is report-bytes)
+
+-- the length of the report is answered
+unfoldable pub said-length : List ℕ → ReportAnswer
+said-length w = report-answer.Length (length w)
+
+-- the report stands first in its buffer, zeros behind it, and the other buffers are all 0
+unfoldable pub leaves-report : List ℕ → List (List ℕ)
+leaves-report w = zeros step-entries ∷ zeros work-bytes ∷ zeros witness-entries ∷ entries report-bytes w ∷ []
+
+-- what `report` answers and leaves
+abbrev pub ReportCall : (text steps work witness out : List ℕ) → ReportAnswer → (steps′ work′ witness′ out′ : List ℕ) → Type 0
+ReportCall text steps work witness out r steps′ work′ witness′ out′ =
+    Call (λ f. f ≡ buffers-refusal steps work witness out) report-answer.Refused (ReportOf text) said-length leaves-report
+    (steps ∷ work ∷ witness ∷ out ∷ []) r (steps′ ∷ work′ ∷ witness′ ∷ out′ ∷ [])
