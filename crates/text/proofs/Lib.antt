@@ -9,4 +9,7 @@ pub mod Compare
 pub mod Puts
 pub mod Only
 pub mod Calls
+pub mod Heards
+pub mod Room
+pub mod ReportOnly
 pub mod Samples

@@ -13,9 +13,15 @@ use Rattle.text.specs.Report.{ReportOf}
 use Rattle.text.specs.declared.report.ReportAnswer.{ReportAnswer}
 use Rattle.text.specs.declared.report.ReportAnswer.the-variants as report-answer
 
--- the buffer for a report has 2,048 bytes
+-- the buffer for a report has 2,048 bytes: a line of a verdict with a witness has at most 544, and any other at most 64
 abbrev pub report-bytes : ℕ
 report-bytes = 2048
+
+abbrev pub most-long : ℕ
+most-long = 544
+
+abbrev pub most-short : ℕ
+most-short = 64
 
 -- 12: a lent buffer has a wrong length
 unfoldable pub buffers-refusal : (steps work witness out : List ℕ) → Refusal
