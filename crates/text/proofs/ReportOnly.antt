@@ -51,7 +51,7 @@ report-one (text-refused n p h r) (text-refused m q k s) = same-refusal refl (re
 report-one (text-refused n p h r) (text-read log k s t) = absurd (refused≢taken (reading-one r (in-form log s)))
 report-one (text-read log k s r) (text-too-long h) = absurd (omega arith)
 report-one (text-read log k s t) (text-refused n p h r) = absurd (refused≢taken (reading-one r (in-form log s)))
-report-one (text-read log h s t) (text-read log′ k u {w} v) = log-report-one t (subst (λ (l : List ℕ). LogReport l w) (says-one u s) v)
+report-one (text-read log h s t) (text-read log′ {w} k u v) = log-report-one t (subst (λ (l : List ℕ). LogReport l w) (says-one u s) v)
 
 four-one : {a b c d e f g h : List ℕ} → a ∷ b ∷ c ∷ d ∷ [] ≡ e ∷ f ∷ g ∷ h ∷ [] → (a ≡ e) × (b ≡ f) × (c ≡ g) × (d ≡ h)
 four-one e = (cc, cc, cc, cc)
