@@ -1,5 +1,5 @@
 -- Laws of the tests of specs/Tests.antt. A test passes when it is `≡ true`.
-use mathlib.Core.Path.{_≡_, refl, sym, _∙_}
+use mathlib.Core.Path.{_≡_, refl, sym, ap, _∙_}
 use mathlib.Core.Bool.{Bool, true, false, not, true≢false, false≢true}
 use mathlib.Core.Logic.{_⊎_, inl, inr, ⊎-elim}
 use Prim.Native.Nat.{ℕ, zero, suc, _+_, _≤_, _<_}
@@ -76,6 +76,11 @@ pub and-true : {a b : Bool} → a ≡ true → (a and b) ≡ b
 unfolding _and_
 and-true {a = true} {b} h = refl
 and-true {a = false} {b} h = absurd (false≢true h)
+
+pub and-true-right : (a : Bool) {b : Bool} → b ≡ true → (a and b) ≡ a
+unfolding _and_
+and-true-right true h = h
+and-true-right false h = refl
 
 pub or-false : {a b : Bool} → a ≡ false → (a or b) ≡ b
 unfolding _or_
@@ -378,3 +383,29 @@ lowest-right n p q h = go (decide (some n q))
         let r = lowest-is q k in
         lowest-at (λ i. p i or q i) (lowest n q) (r .0) (→or-right _ (r .1))
         (λ (i : ℕ) (l : i < lowest n q). or-false (below-lowest n p i (omega arith)) ∙ r .2 i l)
+
+-- counting: tests that agree, and one that passes at one number fewer
+pub count-same : (n : ℕ) (p q : ℕ → Bool) → ((i : ℕ) → i < n → p i ≡ q i) → count n p ≡ count n q
+unfolding count
+count-same zero p q f = refl
+count-same (suc n) p q f = rw (count-same n p q (λ (i : ℕ) (h : i < n). f i (omega arith)), f n (omega arith)) refl
+
+pub count-without : (n : ℕ) (p : ℕ → Bool) (t : ℕ) → t < n → p t ≡ true → suc (count n (λ i. p i and fails (i is t))) ≡ count n p
+unfolding count
+count-without zero p t h k = absurd (not-suc-le-zero h)
+count-without (suc n) p t h k = go (decide (n is t)) (λ l. count-without n p t l k)
+  where
+    go : ((n is t) ≡ true) ⊎ ((n is t) ≡ false) → (t < n → suc (count n (λ i. p i and fails (i is t))) ≡ count n p)
+        → suc (if p n and fails (n is t) then suc (count n (λ i. p i and fails (i is t))) else count n (λ i. p i and fails (i is t))) ≡ (if p n then suc (count n p) else count n p)
+    go (inl e) again =
+        let z : n ≡ t = is→ e in
+        ap suc (if-false _ _ (and-no-right _ (→not-fails e)) ∙ count-same n _ p (λ (i : ℕ) (l : i < n). and-true-right (p i) (→fails (→isnt (λ (q : i ≡ t). omega arith)))))
+        ∙ sym (if-true _ _ (rw z k))
+    go (inr e) again =
+        let z : n ≡ t → ⊥ = isnt→ e in
+        let rec : suc (count n (λ i. p i and fails (i is t))) ≡ count n p = again (omega arith) in
+        ⊎-elim (λ (q : p n ≡ true). ap suc (if-true _ _ (→and q (→fails e)) ∙ rec) ∙ sym (if-true _ _ q))
+        (λ (q : p n ≡ false). ap suc (if-false _ _ (and-no-left _ q)) ∙ rec ∙ sym (if-false _ _ q)) (decide (p n))
+
+pub none-counted : (n : ℕ) (p : ℕ → Bool) → count n p ≡ 0 → (i : ℕ) → i < n → p i ≡ false
+none-counted n p h i k = to-false (p i) (λ q. let z : suc (count n (λ j. p j and fails (j is i))) ≡ count n p = count-without n p i k q in omega arith)

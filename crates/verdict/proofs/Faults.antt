@@ -8,6 +8,10 @@ use native.Mathlib.Omega.{arith}
 use Rattle.graph.specs.Tests.{_is_, _below_, _upto_, _and_, _or_, fails, if_then_else_, some, lowest}
 use Rattle.graph.proofs.Truth.{not-both, to-true, →and, and-no-left, and-no-right, and-true, →or-left, or-false, →fails, →not-fails, →is, →isnt, if-true, if-false, lowest-none, lowest-some, some-same}
 use Rattle.verdict.specs.Log.{steps, kind, tx, obj, src, reads, writes, committed, aborted}
+use Rattle.verdict.specs.Said.{said-fault, said-clean}
+use Rattle.verdict.specs.declared.Fault as code
+use Rattle.verdict.specs.declared.CleanAnswer.{CleanAnswer}
+use Rattle.verdict.specs.declared.CleanAnswer.the-variants as clean-answer
 use Rattle.verdict.specs.Clean.{Fault, aborted-at, unfinal-at, Cleanness, clean, unclean, judged, judged-other, writes-later, final-source, faulty-read, is-clean, fault-at, cleanness}
 
 module _ (log : List ℕ) (i : ℕ) where
@@ -56,3 +60,14 @@ module _ (log : List ℕ) where
     pub from-unfinal : aborted log (src log k) ≡ false → cleanness log ≡ unclean (unfinal-at k)
     unfolding fault-at
     from-unfinal a = faulty ∙ ap unclean (if-false _ _ a)
+
+-- what the code says of the verdict tells which it is
+pub told-clean : (k : Cleanness) {r : CleanAnswer} → r ≡ said-clean k → ((f : code.Fault) → r ≡ clean-answer.Unclean f → ⊥) → k ≡ clean
+unfolding said-clean
+told-clean clean e n = refl
+told-clean (unclean f) e n = absurd (n (said-fault f) e)
+
+pub told-unclean : (k : Cleanness) {f : code.Fault} → said-clean k ≡ clean-answer.Unclean f → (g : Fault) × (k ≡ unclean g) × (f ≡ said-fault g)
+unfolding said-clean
+told-unclean clean e = let z : _≡_ {A = ℕ} 0 1 = cc in absurd (omega arith)
+told-unclean (unclean g) e = (g, refl, cc)

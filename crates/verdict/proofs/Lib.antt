@@ -8,10 +8,14 @@ pub mod WellFormed
 pub mod Frame
 pub mod Marks
 pub mod SnapshotLaws
+pub mod Loosely
+pub mod Matrices
 pub mod Versions
+pub mod ConflictGraph
 pub mod Finds
 pub mod Center
 pub mod Judge
+pub mod VersionGraph
 pub mod Some
 pub mod Only
 pub mod Listing

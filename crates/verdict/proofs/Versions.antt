@@ -37,6 +37,10 @@ shared log a b h =
     let r = some→ h in
     (obj log (r .0), →some _ (r .0) (r .1) (→and (and→ (r .2) .0) (→is refl)), and→ (r .2) .1)
 
+-- step j commits a version of x after v's
+unfoldable pub candidate : List ℕ → ℕ → ℕ → ℕ → Bool
+candidate log x v j = after log v upto j and commits-writer log x j
+
 module _ {most : ℕ} (log : List ℕ) (well : Well most log) where
   commit-step-is : (t : ℕ) → committed log t ≡ true → (commit-step log t < steps log) × (commits log t (commit-step log t) ≡ true)
   unfolding committed commit-step
@@ -62,37 +66,34 @@ module _ {most : ℕ} (log : List ℕ) (well : Well most log) where
     pub later : after log v ≤ commit-step log u
     pub least : (z : ℕ) → Wrote log x z → after log v ≤ commit-step log z → commit-step log u ≤ commit-step log z
 
-  candidate : ℕ → ℕ → ℕ → Bool
-  candidate x v j = after log v upto j and commits-writer log x j
-
-  is-candidate : (x v z : ℕ) → Wrote log x z → after log v ≤ commit-step log z → candidate x v (commit-step log z) ≡ true
+  is-candidate : (x v z : ℕ) → Wrote log x z → after log v ≤ commit-step log z → candidate log x v (commit-step log z) ≡ true
   unfolding candidate commits-writer commits
   is-candidate x v z z-wrote h =
       →and (→upto h)
       (→and (and→ (commit-step-is z (z-wrote .commit) .1) .0) (rw (tx-at z (z-wrote .commit)) (z-wrote .write)))
 
-  following-at : (x v : ℕ) → some (steps log) (candidate x v) ≡ true → Following x v (tx log (next-commit log x v))
+  following-at : (x v : ℕ) → some (steps log) (candidate log x v) ≡ true → Following x v (tx log (next-commit log x v))
   unfolding candidate commits-writer next-commit commits committed
   following-at x v h =
-      let r = lowest-is (candidate x v) h in
-      let j : ℕ = lowest (steps log) (candidate x v) in
+      let r = lowest-is (candidate log x v) h in
+      let j : ℕ = lowest (steps log) (candidate log x v) in
       let c : commits log (tx log j) j ≡ true = →and (and→ (and→ (r .1) .1) .0) (→is refl) in
       let e : commit-step log (tx log j) ≡ j = commit-step-at (tx log j) j (r .0) c in
       record {
         wrote = record { commit = →some _ j (r .0) c; write = and→ (and→ (r .1) .1) .1 };
         later = rw e (upto→ (and→ (r .1) .0));
-        least = λ z z-wrote k. rw e (lowest-le (candidate x v) (commit-step log z) (commit-step-is z (z-wrote .commit) .0) (is-candidate x v z z-wrote k));
+        least = λ z z-wrote k. rw e (lowest-le (candidate log x v) (commit-step log z) (commit-step-is z (z-wrote .commit) .0) (is-candidate x v z z-wrote k));
       }
 
   pub next→ : (x v u : ℕ) → next-version log x v u ≡ true → Following x v u
   unfolding next-version next-commit candidate
   next→ x v u h =
       let r = and→ h in
-      let s : some (steps log) (candidate x v) ≡ true = to-true _ (λ k. let n : lowest (steps log) (candidate x v) ≡ steps log = lowest-none (candidate x v) k in omega (arith, below→ (r .0))) in
+      let s : some (steps log) (candidate log x v) ≡ true = to-true _ (λ k. let n : lowest (steps log) (candidate log x v) ≡ steps log = lowest-none (candidate log x v) k in omega (arith, below→ (r .0))) in
       subst (Following x v) (is→ (r .1)) (following-at x v s)
 
   pub →next : (x v z : ℕ) → Wrote log x z → after log v ≤ commit-step log z → (u : ℕ) × (next-version log x v u ≡ true) × Following x v u
   unfolding next-version next-commit candidate
   →next x v z z-wrote h =
-      let s : some (steps log) (candidate x v) ≡ true = →some _ (commit-step log z) (commit-step-is z (z-wrote .commit) .0) (is-candidate x v z z-wrote h) in
-      (tx log (next-commit log x v), →and (→below (lowest-is (candidate x v) s .0)) (→is refl), following-at x v s)
+      let s : some (steps log) (candidate log x v) ≡ true = →some _ (commit-step log z) (commit-step-is z (z-wrote .commit) .0) (is-candidate x v z z-wrote h) in
+      (tx log (next-commit log x v), →and (→below (lowest-is (candidate log x v) s .0)) (→is refl), following-at x v s)

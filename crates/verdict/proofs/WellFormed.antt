@@ -9,7 +9,7 @@ use native.Mathlib.Nat.{not-suc-le-zero}
 use Rattle.graph.specs.Tests.{_is_, _below_, _upto_, _and_, _or_, fails}
 use Rattle.verdict.specs.Limits.{transactions, objects}
 use Rattle.verdict.specs.Log.{steps, kind, tx, obj, src, commits, writer}
-use Rattle.verdict.specs.Refusal.{Refusal, taken, refused, _at_when_, _else-try_, tried, object-allowed, begun, ended, wrote, range-refusal, life-refusal, source-refusal, step-refusal, log-refusal}
+use Rattle.verdict.specs.Refusal.{Refusal, taken, refused, _at_when_, _else-try_, tried, object-allowed, source-allowed, begun, ended, wrote, range-refusal, life-refusal, source-refusal, step-refusal, log-refusal}
 use Rattle.graph.proofs.Truth.{decide, not-both, to-true, and→, →and, →or-left, →or-right, →fails, is→, →is, →isnt, upto→, below→, not-below→, some→, →some, if-true}
 
 Is-taken : Refusal → Type 0
@@ -58,6 +58,10 @@ module _ (log : List ℕ) (well : log-refusal log ≡ taken) where
     unfolding range-refusal
     test-5 = when→ 5 i _ (else-try→ (else-try→ (else-try→ ranges .1) .1) .0)
 
+    test-6 : fails (source-allowed (kind log i) (src log i)) ≡ false
+    unfolding range-refusal
+    test-6 = when→ 6 i _ (else-try→ (else-try→ (else-try→ ranges .1) .1) .1)
+
     test-8 : (fails (kind log i is 1) and (fails (begun log i (tx log i)) or ended log i (tx log i))) ≡ false
     unfolding step-refusal life-refusal
     test-8 = when→ 8 i _ (else-try→ (else-try→ (else-try→ (step-taken i h) .1) .0) .1)
@@ -76,6 +80,11 @@ module _ (log : List ℕ) (well : log-refusal log ≡ taken) where
     object-range k =
         let t : (kind log i is 2 or kind log i is 3) ≡ true = ⊎-elim (λ (e : kind log i ≡ 2). →or-left _ (→is e)) (λ (e : kind log i ≡ 3). →or-right _ (→is e)) k in
         below→ (rw (if-true (obj log i below objects) (obj log i is 0) t) at (to-true _ (λ q. not-both (→fails q) test-5)))
+
+    -- sources of reads are 0..128
+    source-range : kind log i ≡ 2 → src log i ≤ transactions
+    unfolding source-allowed
+    source-range k = upto→ (rw (if-true (src log i upto transactions) (src log i is 0) (→is k)) at (to-true _ (λ q. not-both (→fails q) test-6)))
 
     -- a source other than 0 wrote the object in an earlier step
     source-wrote : kind log i ≡ 2 → (src log i ≡ 0 → ⊥) → writer log (obj log i) (src log i) ≡ true
@@ -99,10 +108,12 @@ pub record Well (most : ℕ) (log : List ℕ) : Type 0 where
   pub range : (i : ℕ) → i < steps log → (1 ≤ tx log i) × (tx log i ≤ most)
   -- objects of reads and writes are 0..63
   pub object : (i : ℕ) → i < steps log → (kind log i ≡ 2) ⊎ (kind log i ≡ 3) → obj log i < objects
+  -- sources of reads are 0 to `most`
+  pub sources : (i : ℕ) → i < steps log → kind log i ≡ 2 → src log i ≤ most
   -- a source other than 0 wrote the object
   pub source : (i : ℕ) → i < steps log → kind log i ≡ 2 → (src log i ≡ 0 → ⊥) → writer log (obj log i) (src log i) ≡ true
   -- a transaction commits once
   pub once : (t i j : ℕ) → i < j → j < steps log → commits log t i ≡ true → commits log t j ≡ true → ⊥
 
 pub well-formed : (log : List ℕ) → log-refusal log ≡ taken → Well transactions log
-well-formed log well = record { range = tx-range log well; object = object-range log well; source = source-wrote log well; once = commits-once log well }
+well-formed log well = record { range = tx-range log well; object = object-range log well; sources = source-range log well; source = source-wrote log well; once = commits-once log well }

@@ -1,14 +1,22 @@
 -- What the walks over a log find. The contracts of private functions cite these, no public one does.
 use mathlib.Core.Path.{_≡_}
-use mathlib.Core.Bool.{Bool}
-use mathlib.Core.List.{List}
-use Prim.Native.Nat.{ℕ, suc, _≤_, _<_}
-use lib.ListN.{getD}
-use Rattle.graph.specs.Tests.{_is_, _below_, _upto_, _and_, fails, if_then_else_, lowest}
-use Rattle.verdict.specs.Limits.{transactions, objects}
-use Rattle.verdict.specs.Log.{steps, kind, tx, committed, commit-step}
+use mathlib.Core.Bool.{Bool, false}
+use mathlib.Core.List.{List, [], _∷_}
+use Prim.Native.Nat.{ℕ, suc, _+_, _-_, _*_, _≤_, _<_}
+use lib.ListN.{length, getD, set}
+use Rattle.graph.specs.Tests.{_is_, _below_, _upto_, _and_, _or_, fails, if_then_else_, some, lowest}
+use Rattle.graph.specs.Shows.{Shown, Shows}
+use Rattle.graph.specs.Matrix.{takes-part}
+use Rattle.verdict.specs.Limits.{transactions, objects, work-bytes}
+use Rattle.verdict.specs.Log.{steps, kind, tx, obj, src, committed, commit-step}
+use Rattle.verdict.specs.Conflict.{meet}
+use Rattle.verdict.specs.Version.{next-commit}
 use Rattle.verdict.specs.Snapshot.{overlap, clash, wrong-commit}
 use Rattle.verdict.specs.Refusal.{Refusal, _at_when_, _else-try_}
+use Rattle.verdict.specs.Answer as answer
+use Rattle.verdict.specs.Said.{said}
+use Rattle.verdict.specs.Call.{leaves-witness}
+use Rattle.verdict.specs.declared.Answer.{Answer}
 
 -- the refusal with number n, where 0 stands for none
 unfoldable pub numbered : ℕ → ℕ → Refusal
@@ -43,3 +51,64 @@ module _ (log : List ℕ) where
   pub record FirstClash (step with-partner : ℕ) : Type 0 where
     pub first : step ≡ lowest (steps log) (wrong-commit transactions log)
     pub other : step < steps log → with-partner ≡ lowest (suc transactions) (clash log step)
+
+-- THE EDGES OF A GRAPH, IN THE WORK AREA
+-- edges at writer 0 and from a transaction to itself are dropped
+unfoldable pub kept : ℕ → ℕ → Bool
+kept s t = fails (s is t) and fails (s is 0) and fails (t is 0)
+
+-- the edge from s to t, if it is kept, leads from a to b
+unfoldable pub one-edge : ℕ → ℕ → ℕ → ℕ → Bool
+one-edge s t a b = kept s t and s is a and t is b
+
+unfoldable pub no-edge : ℕ → ℕ → Bool
+no-edge a b = false
+
+-- where the byte for an edge from a to b stands: a row for each transaction, and in it a column for each
+abbrev pub byte-at : ℕ → ℕ → ℕ
+byte-at a b = (a - 1) * transactions + (b - 1)
+
+-- the work area with the edge from s to t, if it is kept
+unfoldable pub with-edge : List ℕ → ℕ → ℕ → List ℕ
+with-edge m s t = if kept s t then set m (byte-at s t) 1 else m
+
+-- for all pairs of transactions at once: the byte for a and b is not 0 exactly where an edge leads from a to b
+pub record Matrix (edge : ℕ → ℕ → Bool) (m : List ℕ) : Type 0 where
+  pub size : length m ≡ work-bytes
+  pub byte : (a b : ℕ) → (1 ≤ a) × (a ≤ transactions) → (1 ≤ b) × (b ≤ transactions) → fails (getD m (byte-at a b) 0 is 0) ≡ edge a b
+
+-- what is shown of a graph, and what that leaves in the lent buffers
+pub record Showing (node : ℕ → Bool) (edge : ℕ → ℕ → Bool) (r : Answer) (work witness : List ℕ) : Type 0 where
+  pub shown : Shown
+  pub right : Shows (suc transactions) node edge shown
+  pub says : r ≡ said (answer.shown shown)
+  pub leaves : work ∷ witness ∷ [] ≡ leaves-witness (answer.shown shown)
+
+module _ (log : List ℕ) where
+  -- the marks say who committed
+  pub record Committed (part : List ℕ) : Type 0 where
+    pub mark : (t : ℕ) → takes-part transactions part t ≡ committed log t
+
+  -- the conflict edges from step i to step j; and of all pairs of steps whose later one is below n
+  unfoldable pub conflict-pair : ℕ → ℕ → ℕ → ℕ → Bool
+  conflict-pair j i a b = committed log (tx log j) and committed log (tx log i) and meet log i j and one-edge (tx log i) (tx log j) a b
+
+  unfoldable pub conflicts-until : ℕ → ℕ → ℕ → Bool
+  conflicts-until n a b = some n (λ j. some j (λ i. conflict-pair j i a b))
+
+  -- the writer of the next version of x after v's; 0 where v's is the last
+  unfoldable pub next-writer : ℕ → ℕ → ℕ
+  next-writer x v = if next-commit log x v below steps log then tx log (next-commit log x v) else 0
+
+  -- the version edges of a write and of a read, each of a committed transaction; and of all steps below n
+  unfoldable pub write-edges : ℕ → ℕ → ℕ → Bool
+  write-edges i a b = one-edge (tx log i) (next-writer (obj log i) (tx log i)) a b
+
+  unfoldable pub read-edges : ℕ → ℕ → ℕ → Bool
+  read-edges i a b = one-edge (src log i) (tx log i) a b or one-edge (tx log i) (next-writer (obj log i) (src log i)) a b
+
+  unfoldable pub version-step : ℕ → ℕ → ℕ → Bool
+  version-step i a b = committed log (tx log i) and (kind log i is 3 and write-edges i a b or kind log i is 2 and read-edges i a b)
+
+  unfoldable pub versions-until : ℕ → ℕ → ℕ → Bool
+  versions-until n a b = some n (λ i. version-step i a b)

@@ -1,11 +1,16 @@
 // The judge of a log: what it may be handed, what it answers, and its entry points.
 mod cleanness;
+mod conflict_graph;
+mod edges;
 mod limits;
 mod refusal;
+mod search;
 mod snapshots;
+mod version_graph;
 mod walk;
 
 pub use cleanness::clean;
+pub use conflict_graph::conflict;
 pub use limits::Log;
 pub use limits::MadeLog;
 pub use limits::MadeObject;
@@ -14,6 +19,7 @@ pub use limits::Object;
 pub use limits::Transaction;
 pub use refusal::check;
 pub use snapshots::snapshot;
+pub use version_graph::version;
 pub use walk::committed;
 
 // What checking a log finds: that it is well-formed, or the number that turns it away and its place.

@@ -16,8 +16,14 @@ pub enum MadeTransaction {
 impl Transaction {
     pub const LIMIT: u16 = 128;
 
+    // How many transactions there are. A witness has an entry for each of them.
+    pub const COUNT: usize = Transaction::LIMIT as usize;
+
     // How many entries a table has that has one for each transaction and one for writer 0.
-    pub const TABLE: usize = Transaction::LIMIT as usize + 1;
+    pub const TABLE: usize = Transaction::COUNT + 1;
+
+    // How many committed transactions the exact search takes.
+    pub const SEARCHED: usize = 8;
 
     // How many entries a table has that has one for each of these and each object.
     pub const PAIRS: usize = Transaction::TABLE * Object::TABLE;

@@ -13,7 +13,7 @@ ghost use mathlib.Core.Path.{_≡_};
 ghost use Prim.Native.Nat.{ℕ, suc, _≤_, _+_, _*_};
 ghost use lib.ListN.{length};
 ghost use Rattle.graph.specs.Tests.{_is_, _below_, _upto_, fails, if_then_else_};
-ghost use Rattle.verdict.specs.Limits.{transactions, objects, work-bytes};
+ghost use Rattle.verdict.specs.Limits.{transactions, objects, witness-entries, work-bytes};
 ghost use Rattle.verdict.specs.Log.{steps};
 ghost use Rattle.verdict.specs.Refusal.{_at_when_, _else-try_, tried, range-refusal, life-refusal, source-refusal, step-refusal, open-refusal, log-refusal};
 ghost use Rattle.verdict.specs.Said.{said-refusal};
@@ -195,6 +195,19 @@ pub fn admit(log: &[u16], work: usize) -> Checked
     ensures { λ r. ⌜ r ≡ said-refusal (12 at 0 when fails (work is work-bytes) else-try log-refusal (now (log .entry))) ⌝ }
 {
     if work != Log::WORK {
+        return Checked::Refused(12, 0);
+    }
+    check(log)
+}
+
+// 12 where the work area or the witness has a wrong length, and then what the check finds.
+pub fn admit_witness(log: &[u16], work: usize, witness: usize) -> Checked
+    ensures { λ r. ⌜ r ≡ said-refusal (12 at 0 when fails (work is work-bytes) else-try 12 at 0 when fails (witness is witness-entries) else-try log-refusal (now (log .entry))) ⌝ }
+{
+    if work != Log::WORK {
+        return Checked::Refused(12, 0);
+    }
+    if witness != Transaction::COUNT {
         return Checked::Refused(12, 0);
     }
     check(log)

@@ -1,0 +1,411 @@
+-- Loose replay, one placement at a time: what a placed beginning finds, when one more may be placed, and when all are.
+use mathlib.Core.Path.{_≡_, refl, sym, ap, subst, _∙_}
+use mathlib.Core.Bool.{Bool, true, false, true≢false, false≢true}
+use mathlib.Core.Logic.{_⊎_, inl, inr, ⊎-elim}
+use mathlib.Core.List.{List, [], _∷_, _++_, append-nil, append-assoc}
+use Prim.Native.Nat.{ℕ, zero, suc, _+_, _*_, _/_, _%_, _≤_, _<_}
+use native.Mathlib.Omega.{arith}
+use native.Mathlib.Numerals.{add-one}
+use lib.ListN.{length, getD, set, take}
+use lib.Seq.{take-suc-set}
+use Rattle.graph.specs.Tests.{_is_, _below_, _and_, _or_, _implies_, fails, if_then_else_, some, every, count}
+use Rattle.graph.specs.Lists.{member, all, distinct}
+use Rattle.graph.specs.First.{dictionary, First, Never}
+use Rattle.graph.specs.Order.{once-each}
+use Rattle.graph.proofs.Truth.{decide, not-both, to-false, to-true, and→, →and, and-true, and-true-right, and-no-left, and-no-right, or→, →or-left, →or-right, or-false, or-no, fails→, →fails, not-fails→, →not-fails, implies→, →implies, is→, →is, isnt→, →isnt, below→, →below, not-below→, if-true, if-false, every→, →every, some→, count-none, count-same, count-without, none-counted}
+use Rattle.graph.proofs.Places.{member→, member-head, member-tail, all→, →all, distinct→}
+use Rattle.graph.proofs.Dictionary.{dictionary-not}
+use Rattle.verdict.specs.Limits.{transactions, objects}
+use Rattle.verdict.specs.Log.{steps, kind, tx, obj, src, reads, committed, writer}
+use Rattle.verdict.specs.Clean.{judged, judged-other, is-clean}
+use Rattle.verdict.specs.Replay.{finds, reads-right, serial, explains-loosely}
+use Rattle.verdict.specs.Walk.{Marked}
+use Rattle.verdict.specs.Placing.{barred, needing, allows, asks, need, ran, Needs, Writes, Placed, Searched, found, missed}
+use Rattle.verdict.proofs.WellFormed.{Well}
+use Rattle.verdict.proofs.Versions.{committed-range}
+use Rattle.verdict.proofs.Marks.{ones, mark-clear}
+use Rattle.verdict.proofs.Judged.{judged-read, reader-fails}
+
+implies-true : {a b : Bool} → a ≡ true → (a implies b) ≡ b
+unfolding _implies_
+implies-true {a = true} {b} h = refl
+implies-true {a = false} {b} h = absurd (false≢true h)
+
+-- NEEDS
+-- one more source allows what was allowed and is that source
+pub needing-allows : (e s v : ℕ) → s ≤ transactions → v ≤ transactions → allows (needing e s) v ≡ (allows e v and v is s)
+unfolding needing allows barred
+needing-allows e s v p q = go (decide (e is 0)) (decide (e is suc s)) (decide (v is s))
+  where
+    go : ((e is 0) ≡ true) ⊎ ((e is 0) ≡ false) → ((e is suc s) ≡ true) ⊎ ((e is suc s) ≡ false) → ((v is s) ≡ true) ⊎ ((v is s) ≡ false)
+        → ((if e is 0 then suc s else if e is suc s then e else 255) is 0 or (if e is 0 then suc s else if e is suc s then e else 255) is suc v) ≡ ((e is 0 or e is suc v) and v is s)
+    go (inl z) b (inl c) =
+        rw (if-true (suc s) (if e is suc s then e else 255) z) (→or-right _ (→is (ap suc (sym (is→ c)))) ∙ sym (→and (→or-left _ z) c))
+    go (inl z) b (inr c) =
+        rw (if-true (suc s) (if e is suc s then e else 255) z)
+        (or-false (→isnt (λ (k : suc s ≡ 0). omega arith)) ∙ →isnt (λ (k : suc s ≡ suc v). isnt→ c (omega arith)) ∙ sym (and-no-right _ c))
+    go (inr z) (inl b) (inl c) =
+        let k : (e is suc v) ≡ true = →is (is→ b ∙ ap suc (sym (is→ c))) in
+        rw (if-false (suc s) (if e is suc s then e else 255) z, if-true e 255 b) (→or-right _ k ∙ sym (→and (→or-right _ k) c))
+    go (inr z) (inl b) (inr c) =
+        let w : e ≡ suc s = is→ b in
+        let n : e ≡ suc v → ⊥ = λ (k : e ≡ suc v). isnt→ c (omega arith) in
+        rw (if-false (suc s) (if e is suc s then e else 255) z, if-true e 255 b) (or-false z ∙ →isnt n ∙ sym (and-no-right _ c))
+    go (inr z) (inr b) c =
+        rw (if-false (suc s) (if e is suc s then e else 255) z, if-false e 255 b)
+        (or-false (→isnt (λ (k : _≡_ {A = ℕ} 255 0). omega arith)) ∙ →isnt (λ (k : 255 ≡ suc v). omega arith) ∙ sym (neither c))
+      where
+        neither : ((v is s) ≡ true) ⊎ ((v is s) ≡ false) → ((e is 0 or e is suc v) and v is s) ≡ false
+        neither (inr k) = and-no-right _ k
+        neither (inl k) = and-no-left _ (or-false z ∙ →isnt (λ (w : e ≡ suc v). isnt→ b (w ∙ ap suc (is→ k))))
+
+module _ (log : List ℕ) (t x : ℕ) where
+  pub need-more : (i : ℕ) → asks log t x i ≡ true → need log t x (i + 1) ≡ needing (need log t x i) (src log i)
+  unfolding need
+  need-more i h = rw (add-one i) (if-true _ _ h)
+
+  pub need-same : (i : ℕ) → asks log t x i ≡ false → need log t x (i + 1) ≡ need log t x i
+  unfolding need
+  need-same i h = rw (add-one i) (if-false _ _ h)
+
+  -- the need allows just the sources that every such read names
+  pub need-allows : (n v : ℕ) → ((i : ℕ) → i < n → asks log t x i ≡ true → src log i ≤ transactions) → v ≤ transactions → allows (need log t x n) v ≡ every n (λ i. asks log t x i implies v is src log i)
+  unfolding need every
+  need-allows zero v f h = unfold allows in (→or-left _ (→is refl))
+  need-allows (suc n) v f h = go (decide (asks log t x n)) (need-allows n v (λ (i : ℕ) (l : i < n). f i (omega arith)) h)
+    where
+      go : (asks log t x n ≡ true) ⊎ (asks log t x n ≡ false) → allows (need log t x n) v ≡ every n (λ i. asks log t x i implies v is src log i)
+          → allows (if asks log t x n then needing (need log t x n) (src log n) else need log t x n) v ≡ (every n (λ i. asks log t x i implies v is src log i) and (asks log t x n implies v is src log n))
+      go (inl k) rec =
+          rw (if-true (needing (need log t x n) (src log n)) (need log t x n) k)
+          (needing-allows (need log t x n) (src log n) v (f n (omega arith) k) h ∙ ap (λ (b : Bool). b and v is src log n) rec ∙ ap (λ (b : Bool). every n (λ i. asks log t x i implies v is src log i) and b) (sym (implies-true k)))
+      go (inr k) rec =
+          rw (if-false (needing (need log t x n) (src log n)) (need log t x n) k)
+          (rec ∙ sym (and-true-right _ (→implies (λ q. absurd (not-both q k)))))
+
+  -- whether step i asks for x, from the answers to the questions that decide it
+  module _ (i : ℕ) where
+    pub asks-unjudged : judged-other log i ≡ false → asks log t x i ≡ false
+    unfolding asks
+    asks-unjudged j = and-no-left _ (and-no-left _ j)
+
+    pub asks-other : (tx log i ≡ t → ⊥) → asks log t x i ≡ false
+    unfolding asks
+    asks-other n = and-no-left _ (and-no-right _ (→isnt n))
+
+    pub asks-elsewhere : (obj log i ≡ x → ⊥) → asks log t x i ≡ false
+    unfolding asks
+    asks-elsewhere n = and-no-right _ (→isnt n)
+
+    asks-all : judged-other log i ≡ true → tx log i ≡ t → obj log i ≡ x → asks log t x i ≡ true
+    unfolding asks
+    asks-all j e f = →and (→and j (→is e)) (→is f)
+
+    pub asks-here : kind log i ≡ 2 → tx log i ≡ t → obj log i ≡ x → (src log i ≡ t → ⊥) → asks log t x i ≡ committed log t
+    asks-here k e f n = go (decide (committed log (tx log i)))
+      where
+        go : (committed log (tx log i) ≡ true) ⊎ (committed log (tx log i) ≡ false) → asks log t x i ≡ committed log t
+        go (inl c) = asks-all (judged-read log i k (λ (q : src log i ≡ tx log i). n (q ∙ e)) c) e f ∙ sym (rw e at c)
+        go (inr c) = asks-unjudged (reader-fails log i c) ∙ sym (rw e at c)
+
+-- WHAT A BEGINNING FINDS
+module _ (log : List ℕ) (x : ℕ) where
+  -- of what stands in the beginning itself
+  pub finds-in : (r v : ℕ) (p u : List ℕ) → member r p ≡ true → finds log x r v (p ++ u) ≡ finds log x r v p
+  unfolding finds member
+  finds-in r v [] u m = absurd (false≢true m)
+  finds-in r v (t ∷ p) u m = go (decide (t is r)) (member→ r t p m) (λ k. finds-in r (if writer log x t then t else v) p u k)
+    where
+      go : ((t is r) ≡ true) ⊎ ((t is r) ≡ false) → (r ≡ t) ⊎ (member r p ≡ true) → (member r p ≡ true → finds log x r (if writer log x t then t else v) (p ++ u) ≡ finds log x r (if writer log x t then t else v) p)
+          → (if t is r then v else finds log x r (if writer log x t then t else v) (p ++ u)) ≡ (if t is r then v else finds log x r (if writer log x t then t else v) p)
+      go (inl e) c rec = if-true _ _ e ∙ sym (if-true _ _ e)
+      go (inr e) (inl c) rec = absurd (isnt→ e (sym c))
+      go (inr e) (inr c) rec = if-false _ _ e ∙ rec c ∙ sym (if-false _ _ e)
+
+  -- of what comes right behind it
+  pub finds-behind : (r v : ℕ) (p u : List ℕ) → member r p ≡ false → finds log x r v (p ++ r ∷ u) ≡ ran log x v p
+  unfolding finds ran
+  finds-behind r v [] u m = if-true _ _ (→is refl)
+  finds-behind r v (t ∷ p) u m =
+      if-false _ _ (→isnt (λ (e : t ≡ r). not-both (subst (λ (z : ℕ). member z (t ∷ p) ≡ true) e (member-head t p)) m))
+      ∙ finds-behind r (if writer log x t then t else v) p u (to-false _ (λ k. not-both (member-tail r t p k) m))
+
+  pub ran-more : (v t : ℕ) (p : List ℕ) → ran log x v (p ++ t ∷ []) ≡ (if writer log x t then t else ran log x v p)
+  unfolding ran
+  ran-more v t [] = refl
+  ran-more v t (a ∷ p) = ran-more (if writer log x a then a else v) t p
+
+  -- it is v, or one of the beginning
+  pub ran-bound : (n v : ℕ) (p : List ℕ) → v ≤ n → ((a : ℕ) → member a p ≡ true → a ≤ n) → ran log x v p ≤ n
+  unfolding ran
+  ran-bound n v [] h f = h
+  ran-bound n v (t ∷ p) h f =
+      ran-bound n (if writer log x t then t else v) p
+      (⊎-elim (λ (k : writer log x t ≡ true). rw (if-true t v k) (f t (member-head t p))) (λ (k : writer log x t ≡ false). rw (if-false t v k) h) (decide (writer log x t)))
+      (λ a m. f a (member-tail a t p m))
+
+-- LISTS WITH ONE MORE AT THE END
+pub member-front : (a : ℕ) (p u : List ℕ) → member a p ≡ true → member a (p ++ u) ≡ true
+unfolding member
+member-front a [] u m = absurd (false≢true m)
+member-front a (t ∷ p) u m = ⊎-elim (λ (k : (a is t) ≡ true). →or-left _ k) (λ k. →or-right _ (member-front a p u k)) (or→ m)
+
+pub member-back : (a : ℕ) (p u : List ℕ) → member a u ≡ true → member a (p ++ u) ≡ true
+unfolding member
+member-back a [] u m = m
+member-back a (t ∷ p) u m = →or-right _ (member-back a p u m)
+
+pub member-append→ : (a : ℕ) (p u : List ℕ) → member a (p ++ u) ≡ true → (member a p ≡ true) ⊎ (member a u ≡ true)
+unfolding member
+member-append→ a [] u m = inr m
+member-append→ a (t ∷ p) u m = ⊎-elim (λ (k : (a is t) ≡ true). inl (→or-left _ k)) (λ k. ⊎-elim (λ l. inl (→or-right _ l)) inr (member-append→ a p u k)) (or→ m)
+
+-- what stands behind a beginning of different numbers is not in it
+pub distinct-behind : (t : ℕ) (p u : List ℕ) → distinct (p ++ t ∷ u) ≡ true → member t p ≡ false
+distinct-behind t p u d = to-false _ (λ m. go p m d)
+  where
+    go : (p : List ℕ) → member t p ≡ true → distinct (p ++ t ∷ u) ≡ true → ⊥
+    go [] m d = false≢true (unfold member in m)
+    go (a ∷ p) m d =
+        let r = distinct→ a (p ++ t ∷ u) d in
+        ⊎-elim (λ (e : t ≡ a). not-both (subst (λ (z : ℕ). member z (p ++ t ∷ u) ≡ true) e (member-back t p (t ∷ u) (member-head t u))) (r .0)) (λ k. go p k (r .1)) (member→ t a p m)
+
+pub distinct-more : (t : ℕ) (p : List ℕ) → distinct p ≡ true → member t p ≡ false → distinct (p ++ t ∷ []) ≡ true
+unfolding distinct
+distinct-more t [] d m = →and (→fails (unfold member in refl)) refl
+distinct-more t (a ∷ p) d m =
+    let r = distinct→ a p d in
+    →and (→fails (to-false _ (λ k. ⊎-elim (λ l. not-both l (r .0)) (λ (l : member a (t ∷ []) ≡ true). last l) (member-append→ a p (t ∷ []) k))))
+    (distinct-more t p (r .1) (to-false _ (λ k. not-both (member-tail t a p k) m)))
+  where
+    last : member a (t ∷ []) ≡ true → ⊥
+    last l = ⊎-elim (λ (e : a ≡ t). not-both (subst (λ (z : ℕ). member z (a ∷ p) ≡ true) e (member-head a p)) m) (λ (k : member a [] ≡ true). false≢true (unfold member in k)) (member→ a t [] l)
+
+-- PLACING ONE MORE
+module _ (log : List ℕ) (well : Well transactions log) where
+  is-read : (i : ℕ) → judged-other log i ≡ true → kind log i ≡ 2
+  unfolding judged-other judged reads
+  is-read i j = is→ (and→ (and→ j .0) .0)
+
+  asks→ : (t x i : ℕ) → asks log t x i ≡ true → (judged-other log i ≡ true) × (tx log i ≡ t) × (obj log i ≡ x)
+  unfolding asks
+  asks→ t x i k = let r = and→ (and→ k .0) in (r .0, is→ (r .1), is→ (and→ k .1))
+
+  pub asked : (t x i : ℕ) → i < steps log → asks log t x i ≡ true → src log i ≤ transactions
+  asked t x i h k = well .sources i h (is-read i (asks→ t x i k .0))
+
+  reads-its-source : (w : List ℕ) → explains-loosely transactions log w ≡ true → (i : ℕ) → i < steps log → judged-other log i ≡ true → finds log (obj log i) (tx log i) 0 w ≡ src log i
+  unfolding explains-loosely reads-right
+  reads-its-source w h i l j = is→ (implies→ (every→ _ (and→ h .1) i l) j)
+
+  serial-of : (w : List ℕ) → explains-loosely transactions log w ≡ true
+      → (distinct w ≡ true) × ((a : ℕ) → member a w ≡ true → committed log a ≡ true) × ((t : ℕ) → t ≤ transactions → committed log t ≡ true → member t w ≡ true)
+  unfolding explains-loosely serial once-each
+  serial-of w h =
+      let s = and→ (and→ (and→ h .0) .1) in
+      let r = and→ (s .0) in
+      (r .0, λ a m. and→ (all→ _ w (r .1) a m) .1, λ (t : ℕ) (l : t ≤ transactions) c. implies→ (every→ _ (s .1) t (omega arith)) c)
+
+  module _ (p free last : List ℕ) (placed : Placed log p free last) where
+    bound : (x : ℕ) → ran log x 0 p ≤ transactions
+    bound x = ran-bound log x transactions 0 p (omega arith) (λ a m. committed-range log well a (all→ _ p (placed .members) a m) .1)
+
+    allowed : (t x : ℕ) → allows (need log t x (steps log)) (ran log x 0 p) ≡ every (steps log) (λ i. asks log t x i implies ran log x 0 p is src log i)
+    allowed t x = need-allows log t x (steps log) (ran log x 0 p) (asked t x) (bound x)
+
+    -- t is left: committed, and not placed yet
+    module _ (t : ℕ) (c : committed log t ≡ true) (n : member t p ≡ false) where
+      right-more : ((x : ℕ) → x < objects → allows (need log t x (steps log)) (ran log x 0 p) ≡ true) → (i : ℕ) → i < steps log → judged-other log i ≡ true
+          → member (tx log i) (p ++ t ∷ []) ≡ true → finds log (obj log i) (tx log i) 0 (p ++ t ∷ []) ≡ src log i
+      right-more f i h j m = ⊎-elim old (λ (k : member (tx log i) (t ∷ []) ≡ true). ⊎-elim new (λ (l : member (tx log i) [] ≡ true). absurd (false≢true (unfold member in l))) (member→ (tx log i) t [] k)) (member-append→ (tx log i) p (t ∷ []) m)
+        where
+          old : member (tx log i) p ≡ true → finds log (obj log i) (tx log i) 0 (p ++ t ∷ []) ≡ src log i
+          old k = finds-in log (obj log i) (tx log i) 0 p (t ∷ []) k ∙ placed .right i h j k
+
+          new : tx log i ≡ t → finds log (obj log i) (tx log i) 0 (p ++ t ∷ []) ≡ src log i
+          new e =
+              let x : ℕ = obj log i in
+              let a : asks log t x i ≡ true = unfold asks in (→and (→and j (→is e)) (→is refl)) in
+              let q = implies→ (every→ _ (sym (allowed t x) ∙ f x (well .object i h (inl (is-read i j)))) i h) a in
+              subst (λ (r : ℕ). finds log x r 0 (p ++ t ∷ []) ≡ src log i) (sym e) (finds-behind log x t 0 p [] n ∙ is→ q)
+
+      pub placed-more : ((x : ℕ) → x < objects → allows (need log t x (steps log)) (ran log x 0 p) ≡ true) → (free′ last′ : List ℕ)
+          → Marked (suc transactions) (λ a. committed log a and fails (member a (p ++ t ∷ []))) free′
+          → ((x : ℕ) → x < objects → getD last′ x 0 ≡ (if writer log x t then t else getD last x 0)) → Placed log (p ++ t ∷ []) free′ last′
+      placed-more f free′ last′ m w =
+          record {
+            different = distinct-more t p (placed .different) n;
+            members = →all _ (p ++ t ∷ []) (λ a k. ⊎-elim (λ l. all→ _ p (placed .members) a l) (λ (l : member a (t ∷ []) ≡ true). ⊎-elim (λ (e : a ≡ t). rw e c) (λ (z : member a [] ≡ true). absurd (false≢true (unfold member in z))) (member→ a t [] l)) (member-append→ a p (t ∷ []) k));
+            right = right-more f;
+            left = m;
+            writers = λ x h. w x h ∙ ap (λ (v : ℕ). if writer log x t then t else v) (placed .writers x h) ∙ sym (ran-more log x 0 t p);
+          }
+
+      -- a need that does not allow what t would find bars every order that goes on with t
+      pub never-placed : (x : ℕ) → allows (need log t x (steps log)) (ran log x 0 p) ≡ false → Never (λ u. explains-loosely transactions log (p ++ t ∷ u))
+      never-placed x f u = to-false _ (λ h. not-both (→every _ (λ i l. →implies (λ a. →is (names h i l a)))) (sym (allowed t x) ∙ f))
+        where
+          names : explains-loosely transactions log (p ++ t ∷ u) ≡ true → (i : ℕ) → i < steps log → asks log t x i ≡ true → ran log x 0 p ≡ src log i
+          names h i l a =
+              let q = asks→ t x i a in
+              let r : finds log (obj log i) (tx log i) 0 (p ++ t ∷ u) ≡ src log i = reads-its-source (p ++ t ∷ u) h i l (q .0) in
+              sym (finds-behind log x t 0 p u n)
+              ∙ subst (λ (y : ℕ). finds log y t 0 (p ++ t ∷ u) ≡ src log i) (q .2) (subst (λ (y : ℕ). finds log (obj log i) y 0 (p ++ t ∷ u) ≡ src log i) (q .1) r)
+
+    -- what goes on behind p is left
+    pub goes-on : (a : ℕ) (u : List ℕ) → explains-loosely transactions log (p ++ a ∷ u) ≡ true → (committed log a ≡ true) × (member a p ≡ false) × (1 ≤ a) × (a ≤ transactions)
+    goes-on a u h =
+        let s = serial-of (p ++ a ∷ u) h in
+        let c : committed log a ≡ true = s .1 a (member-back a p (a ∷ u) (member-head a u)) in
+        let r = committed-range log well a c in
+        (c, distinct-behind a p u (s .0), r .0, r .1)
+
+    -- p alone does not explain while one is left, and does when none is
+    pub not-all : (t : ℕ) → committed log t ≡ true → member t p ≡ false → explains-loosely transactions log (p ++ []) ≡ false
+    not-all t c n = to-false _ (λ h. not-both (rw append-nil at (serial-of (p ++ []) h .2 t (committed-range log well t c .1) c)) n)
+
+    pub all-placed : is-clean log ≡ true → ((t : ℕ) → t ≤ transactions → committed log t ≡ true → member t p ≡ true) → explains-loosely transactions log (p ++ []) ≡ true
+    unfolding explains-loosely serial once-each reads-right
+    all-placed cl f =
+        rw append-nil
+        (→and (→and cl (→and (→and (placed .different) (→all _ p (λ a m. let c = all→ _ p (placed .members) a m in let z : a ≤ transactions = committed-range log well a c .1 in →and (→below (omega arith)) c)))
+        (→every _ (λ (t : ℕ) (h : t < suc transactions). →implies (λ c. f t (omega arith) c)))))
+        (→every _ (λ i h. →implies (λ j. →is (placed .right i h j (f (tx log i) (well .range i h .1) (reader i j)))))))
+      where
+        reader : (i : ℕ) → judged-other log i ≡ true → committed log (tx log i) ≡ true
+        reader i j = unfold judged-other judged in (and→ (and→ j .0) .1)
+
+-- the first entries of an array with one more stored behind them
+pub take-next : (placed : List ℕ) (at t : ℕ) → at < length placed → take (at + 1) (set placed at t) ≡ take at placed ++ t ∷ []
+take-next placed at t h = rw (add-one at) (take-suc-set placed at t h)
+
+-- what holds below t and at t holds below t + 1
+pub and-here : (P : ℕ → Type 0) (t : ℕ) → ((a : ℕ) → a < t → P a) → P t → (a : ℕ) → a < t + 1 → P a
+and-here P t f h a k = ⊎-elim (λ (q : (a below t) ≡ true). f a (below→ q)) (λ (q : (a below t) ≡ false). let e : t ≡ a = omega (arith, not-below→ q) in subst P e h) (decide (a below t))
+
+-- THE FIRST LIST THAT PASSES, BY ITS HEAD
+module _ (passes : List ℕ → Bool) (not-empty : passes [] ≡ false) where
+  pub first-head : (t : ℕ) (u : List ℕ) → ((a : ℕ) → a < t → Never (λ v. passes (a ∷ v))) → First dictionary (λ v. passes (t ∷ v)) u → First dictionary passes (t ∷ u)
+  first-head t u f g = record { one = g .one; none-earlier = earlier }
+    where
+      earlier : (v : List ℕ) → passes v ≡ true → dictionary v (t ∷ u) ≡ false
+      earlier [] h = absurd (not-both h not-empty)
+      earlier (a ∷ v) h =
+          dictionary-not a t v u
+          (⊎-elim (λ (k : (a below t) ≡ true). absurd (not-both h (f a (below→ k) v))) (λ (k : (a below t) ≡ false). not-below→ k) (decide (a below t)))
+          (λ (e : a ≡ t). g .none-earlier v (rw e at h))
+
+  pub no-head : ((a : ℕ) (v : List ℕ) → passes (a ∷ v) ≡ false) → Never passes
+  no-head f [] = not-empty
+  no-head f (a ∷ v) = f a v
+
+-- TABLES OF PAIRS: the entry of t and x
+pub pair-row : (t x : ℕ) → x < objects → (t * objects + x) / objects ≡ t
+pair-row t x h = omega arith
+
+pub pair-column : (t x : ℕ) → x < objects → (t * objects + x) % objects ≡ x
+pair-column t x h = omega arith
+
+module _ (log marks : List ℕ) (m : Marked (suc transactions) (committed log) marks) where
+  pub needs-from : (table : List ℕ) → ((u : ℕ) → u < 8256 → getD table u 0 ≡ (if fails (getD marks (u / objects) 0 is 0) then need log (u / objects) (u % objects) (steps log) else 0)) → Needs log table
+  needs-from table f =
+      record {
+        entry = λ (t x : ℕ) c (h : t ≤ transactions) (k : x < objects).
+            f (t * objects + x) (omega arith) ∙ rw (pair-row t x k, pair-column t x k) (if-true _ _ (m .mark t (omega arith) ∙ c));
+      }
+
+  pub writes-from : (table : List ℕ) → ((u : ℕ) → u < 8256 → getD table u 0 ≡ (if fails (getD marks (u / objects) 0 is 0) and writer log (u % objects) (u / objects) then 1 else 0)) → Writes log table
+  writes-from table f =
+      record {
+        entry = λ (t x : ℕ) c (h : t ≤ transactions) (k : x < objects).
+            ones (λ u. fails (getD marks (u / objects) 0 is 0) and writer log (u % objects) (u / objects)) {marks = table} f .mark (t * objects + x) (omega arith)
+            ∙ rw (pair-row t x k, pair-column t x k) (and-true (m .mark t (omega arith) ∙ c));
+      }
+
+-- THE SEARCH, STEP BY STEP
+module _ (log : List ℕ) (well : Well transactions log) (p free last : List ℕ) (placed : Placed log p free last) where
+  E : List ℕ → Bool
+  E w = explains-loosely transactions log w
+
+  -- whether t is left
+  marks : ℕ → Bool
+  marks t = fails (getD free t 0 is 0)
+
+  marks→ : (t : ℕ) → t ≤ transactions → marks t ≡ true → (committed log t ≡ true) × (member t p ≡ false)
+  unfolding marks
+  marks→ t h m = let r = and→ (sym (placed .left .mark t (omega arith)) ∙ m) in (r .0, fails→ (r .1))
+
+  -- all are placed
+  pub search-done : (n : ℕ) (order : List ℕ) → is-clean log ≡ true → count (suc transactions) (λ t. fails (getD free t 0 is 0)) ≡ 0 → take n order ≡ p → Searched log p n true order
+  search-done n order cl z e =
+      found []
+      (record {
+        one = all-placed log well p free last placed cl (λ (t : ℕ) (h : t ≤ transactions) c. to-true _ (λ k. not-both (→and c (→fails k)) (sym (placed .left .mark t (omega arith)) ∙ none-counted (suc transactions) (λ t. fails (getD free t 0 is 0)) z t (omega arith))));
+        none-earlier = λ v h. unfold dictionary in refl;
+      })
+      (e ∙ sym (append-nil p))
+
+  -- numbers that are not left start nothing
+  pub before-first : (a : ℕ) → a < 1 → Never (λ v. explains-loosely transactions log (p ++ a ∷ v))
+  before-first a h v = to-false _ (λ k. let r = goes-on log well p free last placed a v k in omega (arith, r .2))
+
+  pub not-left : (t : ℕ) → t ≤ transactions → getD free t 0 ≡ 0 → Never (λ v. explains-loosely transactions log (p ++ t ∷ v))
+  not-left t h z v =
+      to-false _ (λ k.
+      let r = goes-on log well p free last placed t v k in
+      not-both (→and (r .0) (→fails (r .1))) (sym (placed .left .mark t (omega arith)) ∙ →not-fails (→is z)))
+
+  -- one that is left
+  module _ (t : ℕ) (h : t ≤ transactions) (m : getD free t 0 ≡ 0 → ⊥) {table : List ℕ} (needs : Needs log table) where
+    is-left : (committed log t ≡ true) × (member t p ≡ false)
+    is-left = marks→ t h (unfold marks in (→fails (→isnt m)))
+
+    finding : (x : ℕ) → x < objects → allows (getD table (t * objects + x) 0) (getD last x 0) ≡ allows (need log t x (steps log)) (ran log x 0 p)
+    finding x k = rw (needs .entry t x (is-left .0) h k, placed .writers x k) refl
+
+    pub not-fitting : every objects (λ x. allows (getD table (t * objects + x) 0) (getD last x 0)) ≡ false → Never (λ v. explains-loosely transactions log (p ++ t ∷ v))
+    not-fitting f v = to-false _ (λ e. not-both (→every _ (λ x k. finding x k ∙ to-true _ (λ q. not-both e (never-placed log well p free last placed t (is-left .0) (is-left .1) x q v)))) f)
+
+    pub fitting : every objects (λ x. allows (getD table (t * objects + x) 0) (getD last x 0)) ≡ true → {writes : List ℕ} → Writes log writes → (last′ : List ℕ)
+        → ((x : ℕ) → x < objects → getD last′ x 0 ≡ (if fails (getD writes (t * objects + x) 0 is 0) then t else getD last x 0)) → Placed log (p ++ t ∷ []) (set free t 0) last′
+    fitting f {writes} w last′ g =
+        placed-more log well p free last placed t (is-left .0) (is-left .1) (λ x k. sym (finding x k) ∙ every→ _ f x k) (set free t 0) last′
+        (record { mark = λ a k. mark-clear (placed .left) t .mark a k ∙ one-less a })
+        (λ x k. g x k ∙ rw (w .entry t x (is-left .0) h k) refl)
+      where
+        one-less : (a : ℕ) → ((committed log a and fails (member a p)) and fails (a is t)) ≡ (committed log a and fails (member a (p ++ t ∷ [])))
+        one-less a = go (decide (member a p)) (decide (a is t))
+          where
+            go : (member a p ≡ true) ⊎ (member a p ≡ false) → ((a is t) ≡ true) ⊎ ((a is t) ≡ false) → ((committed log a and fails (member a p)) and fails (a is t)) ≡ (committed log a and fails (member a (p ++ t ∷ [])))
+            go (inl k) q = and-no-left _ (and-no-right _ (→not-fails k)) ∙ sym (and-no-right _ (→not-fails (member-front a p (t ∷ []) k)))
+            go (inr k) (inl q) = and-no-right _ (→not-fails q) ∙ sym (and-no-right _ (→not-fails (member-back a p (t ∷ []) (unfold member in (→or-left _ q)))))
+            go (inr k) (inr q) =
+                and-true-right _ (→fails q) ∙ and-true-right _ (→fails k)
+                ∙ sym (and-true-right _ (→fails (to-false _ (λ e. ⊎-elim (λ l. not-both l k) (λ (l : member a (t ∷ []) ≡ true). ⊎-elim (λ (z : a ≡ t). isnt→ q z) (λ (z : member a [] ≡ true). false≢true (unfold member in z)) (member→ a t [] l)) (member-append→ a p (t ∷ []) e)))))
+
+    pub one-fewer : suc (count (suc transactions) (λ a. fails (getD (set free t 0) a 0 is 0))) ≡ count (suc transactions) (λ a. fails (getD free a 0 is 0))
+    one-fewer =
+        ap suc (count-same (suc transactions) _ _ (λ a k. mark-clear {p = λ a. fails (getD free a 0 is 0)} {marks = free} (record { mark = λ b l. refl }) t .mark a k))
+        ∙ count-without (suc transactions) (λ a. fails (getD free a 0 is 0)) t (omega arith) (→fails (→isnt m))
+
+    -- what is found behind it is found, and what is missed is missed
+    pub search-found : {n : ℕ} {order : List ℕ} → ((a : ℕ) → a < t → Never (λ v. explains-loosely transactions log (p ++ a ∷ v))) → Searched log (p ++ t ∷ []) n true order → Searched log p n true order
+    search-found f (found u g e) =
+        found (t ∷ u)
+        (first-head (λ v. explains-loosely transactions log (p ++ v)) (not-all log well p free last placed t (is-left .0) (is-left .1)) t u f
+        (record { one = rw (append-assoc p (t ∷ []) u) at (g .one); none-earlier = λ v k. g .none-earlier v (rw (append-assoc p (t ∷ []) v) k) }))
+        (e ∙ append-assoc p (t ∷ []) u)
+
+    pub search-missed : {n : ℕ} {order : List ℕ} → Searched log (p ++ t ∷ []) n false order → Never (λ v. explains-loosely transactions log (p ++ t ∷ v))
+    search-missed (missed g) v = rw (append-assoc p (t ∷ []) v) at (g v)
+
+  -- none of those left goes on
+  pub search-none : (n : ℕ) (order : List ℕ) → (count (suc transactions) (λ t. fails (getD free t 0 is 0)) ≡ 0 → ⊥) → ((a : ℕ) → a < suc transactions → Never (λ v. explains-loosely transactions log (p ++ a ∷ v))) → Searched log p n false order
+  search-none n order z f = missed (no-head (λ v. explains-loosely transactions log (p ++ v)) (one-left (decide (some (suc transactions) (λ t. fails (getD free t 0 is 0))))) heads)
+    where
+      one-left : (some (suc transactions) (λ t. fails (getD free t 0 is 0)) ≡ true) ⊎ (some (suc transactions) (λ t. fails (getD free t 0 is 0)) ≡ false) → explains-loosely transactions log (p ++ []) ≡ false
+      one-left (inl k) = let r = some→ k in let t : ℕ = r .0 in let l : t < suc transactions = r .1 in let q = marks→ t (omega arith) (unfold marks in (r .2)) in not-all log well p free last placed t (q .0) (q .1)
+      one-left (inr k) = absurd (z (count-none _ _ k))
+
+      heads : (a : ℕ) (v : List ℕ) → explains-loosely transactions log (p ++ a ∷ v) ≡ false
+      heads a v = to-false _ (λ k. let r = goes-on log well p free last placed a v k in not-both k (f a (omega (arith, r .3)) v))

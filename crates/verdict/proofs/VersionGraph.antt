@@ -1,0 +1,207 @@
+-- The version graph: the writer of the next version, and that the edges of all steps are the edges of the graph.
+use mathlib.Core.Path.{_≡_, refl, sym, ap, _∙_}
+use mathlib.Core.Bool.{Bool, true, false}
+use mathlib.Core.Logic.{_⊎_, inl, inr, ⊎-elim}
+use mathlib.Core.List.{List}
+use Prim.Native.Nat.{ℕ, suc, _≤_, _<_}
+use native.Mathlib.Omega.{arith}
+use Rattle.graph.specs.Tests.{_is_, _below_, _upto_, _and_, _or_, fails, some, lowest}
+use Rattle.graph.proofs.Truth.{decide, not-both, same-test, and→, →and, and-true, and-no-left, and-no-right, or→, →or-left, →or-right, or-no, or-false, →fails, fails→, is→, isnt→, →is, →isnt, →below, below→, →not-below, upto→, →upto, →not-upto, if-true, if-false, some→, →some, →none, none→, none-below, lowest-at, lowest-none, lowest-bound}
+use Rattle.verdict.specs.Limits.{transactions}
+use Rattle.verdict.specs.Log.{steps, kind, tx, obj, src, reads, writes, committed, writer, commits-writer}
+use Rattle.verdict.specs.Clean.{judged, is-clean}
+use Rattle.verdict.specs.Version.{after, next-commit, next-version, writer-to-next, source-to-reader, reader-to-next, version-edge}
+use Rattle.verdict.specs.Walk.{one-edge, with-edge, next-writer, write-edges, read-edges, version-step, versions-until, Matrix}
+use Rattle.verdict.proofs.WellFormed.{Well}
+use Rattle.verdict.proofs.Versions.{candidate, next→}
+use Rattle.verdict.proofs.Judge.{version-ends}
+use Rattle.verdict.proofs.Matrices.{Kept, one-edge→, →one-edge, same-edges, edge-more, edges-more, Between}
+
+-- THE WRITER OF THE NEXT VERSION
+module _ (log : List ℕ) (x v : ℕ) where
+  -- the steps before those that may commit it
+  pub none-before : some (after log v) (candidate log x v) ≡ false
+  unfolding candidate
+  none-before = →none _ (λ (j : ℕ) (h : j < after log v). and-no-left _ (→not-upto h))
+
+  pub commits-next : (j : ℕ) → after log v ≤ j → kind log j ≡ 4 → writer log x (tx log j) ≡ true → candidate log x v j ≡ true
+  unfolding candidate commits-writer
+  commits-next j h k w = →and (→upto h) (→and (→is k) w)
+
+  pub no-commit : (j : ℕ) → (kind log j ≡ 4 → ⊥) → candidate log x v j ≡ false
+  unfolding candidate commits-writer
+  no-commit j k = and-no-right _ (and-no-left _ (→isnt k))
+
+  pub no-writer : (j : ℕ) → writer log x (tx log j) ≡ false → candidate log x v j ≡ false
+  unfolding candidate commits-writer
+  no-writer j w = and-no-right _ (and-no-right _ w)
+
+  -- the first that commits one is the next; without one v's is the last
+  pub next-found : (j : ℕ) → j < steps log → candidate log x v j ≡ true → some j (candidate log x v) ≡ false → tx log j ≡ next-writer log x v
+  unfolding candidate next-writer next-commit
+  next-found j h c n =
+      let e : next-commit log x v ≡ j = lowest-at (candidate log x v) j h c (none→ (candidate log x v) n) in
+      rw e (sym (if-true _ _ (→below h)))
+
+  pub next-none : (j : ℕ) → steps log ≤ j → some j (candidate log x v) ≡ false → 0 ≡ next-writer log x v
+  unfolding candidate next-writer next-commit
+  next-none j h n =
+      let e : next-commit log x v ≡ steps log = lowest-none (candidate log x v) (none-below {i = j} (steps log) (candidate log x v) n h) in
+      rw e (sym (if-false _ _ (→not-below (omega arith))))
+
+  -- what the writer of the next version says of the versions
+  pub next-version→ : (u : ℕ) → next-version log x v u ≡ true → next-writer log x v ≡ u
+  unfolding next-version next-writer
+  next-version→ u h = if-true _ _ (and→ h .0) ∙ is→ (and→ h .1)
+
+  pub →next-version : (u : ℕ) → next-writer log x v ≡ u → (u ≡ 0 → ⊥) → next-version log x v u ≡ true
+  unfolding next-version next-writer
+  →next-version u e n = go (decide (next-commit log x v below steps log))
+    where
+      go : ((next-commit log x v below steps log) ≡ true) ⊎ ((next-commit log x v below steps log) ≡ false) → next-version log x v u ≡ true
+      go (inl k) = →and k (→is (sym (if-true _ _ k) ∙ e))
+      go (inr k) = absurd (n (sym e ∙ if-false _ _ k))
+
+-- a transaction, or 0
+pub next-range : (log : List ℕ) → Well transactions log → (x v : ℕ) → next-writer log x v ≤ transactions
+unfolding next-writer
+next-range log well x v = go (decide (next-commit log x v below steps log))
+  where
+    go : ((next-commit log x v below steps log) ≡ true) ⊎ ((next-commit log x v below steps log) ≡ false) → next-writer log x v ≤ transactions
+    go (inl k) = rw (if-true (tx log (next-commit log x v)) 0 k) (well .range (next-commit log x v) (below→ k) .1)
+    go (inr k) = rw (if-false (tx log (next-commit log x v)) 0 k) (omega arith)
+
+-- a source is a transaction too, or 0
+pub source-range : (log : List ℕ) → Well transactions log → (i : ℕ) → i < steps log → kind log i ≡ 2 → src log i ≤ transactions
+unfolding writer writes
+source-range log well i h k = go (decide (src log i is 0))
+  where
+    go : ((src log i is 0) ≡ true) ⊎ ((src log i is 0) ≡ false) → src log i ≤ transactions
+    go (inl z) = let e : src log i ≡ 0 = is→ z in omega arith
+    go (inr n) =
+        let r = some→ (well .source i h k (isnt→ n)) in
+        let e : tx log (r .0) ≡ src log i = is→ (and→ (and→ (r .2) .0) .1) in
+        rw e at (well .range (r .0) (r .1) .1)
+
+-- THE EDGES OF A STEP
+module _ (log : List ℕ) (i : ℕ) where
+  pub open-step : committed log (tx log i) ≡ false → (a b : ℕ) → version-step log i a b ≡ false
+  unfolding version-step
+  open-step n a b = and-no-left _ n
+
+  pub other-step : (kind log i ≡ 2 → ⊥) → (kind log i ≡ 3 → ⊥) → (a b : ℕ) → version-step log i a b ≡ false
+  unfolding version-step
+  other-step r w a b = and-no-right _ (or-no _ (and-no-left _ (→isnt r)) ∙ and-no-left _ (→isnt w))
+
+  module _ (c : committed log (tx log i) ≡ true) where
+    pub write-step : kind log i ≡ 3 → (a b : ℕ) → version-step log i a b ≡ write-edges log i a b
+    unfolding version-step
+    write-step w a b = and-true c ∙ or-no _ (and-no-left _ (→isnt (λ (r : kind log i ≡ 2). omega arith))) ∙ and-true (→is w)
+
+    pub read-step : kind log i ≡ 2 → (a b : ℕ) → version-step log i a b ≡ read-edges log i a b
+    unfolding version-step
+    read-step r a b = and-true c ∙ or-false (and-no-left _ (→isnt (λ (w : kind log i ≡ 3). omega arith))) ∙ and-true (→is r)
+
+  -- the matrix of the steps below i, and then of step i too
+  module _ {m : List ℕ} (drawn : Matrix (versions-until log i) m) where
+    pub none-drawn : ((a b : ℕ) → version-step log i a b ≡ false) → Matrix (versions-until log (suc i)) m
+    unfolding versions-until some
+    none-drawn f = same-edges drawn (λ a b. sym (or-no _ (f a b)))
+
+    module _ (well : Well transactions log) (h : i < steps log) (c : committed log (tx log i) ≡ true) where
+      pub write-drawn : kind log i ≡ 3 → Matrix (versions-until log (suc i)) (with-edge m (tx log i) (next-writer log (obj log i) (tx log i)))
+      unfolding versions-until some write-edges
+      write-drawn w =
+          same-edges (edge-more drawn (tx log i) (next-writer log (obj log i) (tx log i)) (well .range i h .1) (next-range log well _ _))
+          (λ a b. ap (λ (z : Bool). versions-until log i a b or z) (sym (write-step c w a b)))
+
+      pub read-drawn : kind log i ≡ 2
+          → Matrix (versions-until log (suc i)) (with-edge (with-edge m (src log i) (tx log i)) (tx log i) (next-writer log (obj log i) (src log i)))
+      unfolding versions-until some read-edges
+      read-drawn r =
+          same-edges (edges-more (src log i) (tx log i) (source-range log well i h r) (well .range i h .1) (tx log i) (next-writer log (obj log i) (src log i)) (well .range i h .1) (next-range log well _ _) drawn)
+          (λ a b. ap (λ (z : Bool). versions-until log i a b or z) (sym (read-step c r a b)))
+
+-- THE EDGES OF ALL STEPS
+module _ (log : List ℕ) (a b : ℕ) where
+  an-edge : Kept a b → (writer-to-next log a b or source-to-reader log a b or reader-to-next log a b) ≡ true → version-edge log a b ≡ true
+  unfolding version-edge
+  an-edge k h = →and (→and (→and (→fails (→isnt (k .differ))) (→fails (→isnt (k .from)))) (→fails (→isnt (k .to)))) h
+
+  -- each edge of a step is one of the graph
+  step-edge : (i : ℕ) → i < steps log → version-step log i a b ≡ true → version-edge log a b ≡ true
+  unfolding version-step write-edges read-edges writer-to-next source-to-reader reader-to-next judged reads
+  step-edge i l h = ⊎-elim write (λ k. ⊎-elim (source (and→ k .0)) (reader (and→ k .0)) (or→ (and→ k .1))) (or→ (and→ h .1))
+    where
+      c : committed log (tx log i) ≡ true
+      c = and→ h .0
+
+      write : (kind log i is 3 and write-edges log i a b) ≡ true → version-edge log a b ≡ true
+      write k =
+          let o = one-edge→ (tx log i) (next-writer log (obj log i) (tx log i)) a b (and→ k .1) in
+          let e : tx log i ≡ a = o .1 in
+          let n : next-writer log (obj log i) a ≡ b = rw e at (o .2) in
+          an-edge (o .0) (→or-left _ (→or-left _ (→and (rw e at c) (→some _ i l (→and (→and (and→ k .0) (→is e)) (→next-version log (obj log i) a b n (o .0 .to)))))))
+
+      source : (kind log i is 2) ≡ true → one-edge (src log i) (tx log i) a b ≡ true → version-edge log a b ≡ true
+      source r k =
+          let o = one-edge→ (src log i) (tx log i) a b k in
+          an-edge (o .0) (→or-left _ (→or-right _ (→some _ i l (→and (→and (→and r c) (→is (o .1))) (→is (o .2))))))
+
+      reader : (kind log i is 2) ≡ true → one-edge (tx log i) (next-writer log (obj log i) (src log i)) a b ≡ true → version-edge log a b ≡ true
+      reader r k =
+          let o = one-edge→ (tx log i) (next-writer log (obj log i) (src log i)) a b k in
+          an-edge (o .0) (→or-right _ (→some _ i l (→and (→and (→and r c) (→is (o .1))) (→next-version log (obj log i) (src log i) b (o .2) (o .0 .to)))))
+
+  -- and each edge of the graph is one of a step
+  edge-step : version-edge log a b ≡ true → (i : ℕ) × (i < steps log) × (version-step log i a b ≡ true)
+  unfolding version-step write-edges read-edges version-edge writer-to-next source-to-reader reader-to-next judged reads
+  edge-step h = ⊎-elim (λ l. ⊎-elim write source (or→ l)) reader (or→ (and→ h .1))
+    where
+      k : Kept a b
+      k = let r = and→ (and→ h .0) in let q = and→ (r .0) in record { differ = isnt→ (fails→ (q .0)); from = isnt→ (fails→ (q .1)); to = isnt→ (fails→ (r .1)) }
+
+      write : writer-to-next log a b ≡ true → (i : ℕ) × (i < steps log) × (version-step log i a b ≡ true)
+      write w =
+          let r = some→ (and→ w .1) in
+          let i : ℕ = r .0 in
+          let e : tx log i ≡ a = is→ (and→ (and→ (r .2) .0) .1) in
+          let n : next-writer log (obj log i) a ≡ b = next-version→ log (obj log i) a b (and→ (r .2) .1) in
+          (i, r .1, →and (rw e (and→ w .0)) (→or-left _ (→and (and→ (and→ (r .2) .0) .0) (rw (e, n) (→one-edge k)))))
+
+      source : source-to-reader log a b ≡ true → (i : ℕ) × (i < steps log) × (version-step log i a b ≡ true)
+      source w =
+          let r = some→ w in
+          let i : ℕ = r .0 in
+          let j = and→ (and→ (and→ (r .2) .0) .0) in
+          let e : src log i ≡ a = is→ (and→ (and→ (r .2) .0) .1) in
+          let f : tx log i ≡ b = is→ (and→ (r .2) .1) in
+          (i, r .1, →and (j .1) (→or-right _ (→and (j .0) (→or-left _ (rw (e, f) (→one-edge k))))))
+
+      reader : reader-to-next log a b ≡ true → (i : ℕ) × (i < steps log) × (version-step log i a b ≡ true)
+      reader w =
+          let r = some→ w in
+          let i : ℕ = r .0 in
+          let j = and→ (and→ (and→ (r .2) .0) .0) in
+          let e : tx log i ≡ a = is→ (and→ (and→ (r .2) .0) .1) in
+          let n : next-writer log (obj log i) (src log i) ≡ b = next-version→ log (obj log i) (src log i) b (and→ (r .2) .1) in
+          (i, r .1, →and (j .1) (→or-right _ (→and (j .0) (→or-right _ (rw (e, n) (→one-edge k))))))
+
+  pub all-versions : versions-until log (steps log) a b ≡ version-edge log a b
+  unfolding versions-until
+  all-versions = same-test (λ h. let r = some→ h in step-edge (r .0) (r .1) (r .2)) (λ h. let r = edge-step h in →some _ (r .0) (r .1) (r .2))
+
+-- THE EDGES JOIN COMMITTED TRANSACTIONS
+module _ {most : ℕ} (log : List ℕ) (well : Well most log) (cl : is-clean log ≡ true) where
+  pub version-between : Between log (version-edge log)
+  unfolding version-edge writer-to-next source-to-reader reader-to-next judged
+  version-between =
+      record {
+        differ = λ a b h. isnt→ (fails→ (and→ (and→ (and→ h .0) .0) .0));
+        from = λ a b h. version-ends log well cl a b h .1;
+        to = λ a b h. ⊎-elim (λ k. ⊎-elim (λ w. let r = some→ (and→ w .1) in next→ log well _ _ b (and→ (r .2) .1) .wrote .commit) (source a b) (or→ k))
+            (λ w. let r = some→ w in next→ log well _ _ b (and→ (r .2) .1) .wrote .commit) (or→ (and→ h .1));
+      }
+    where
+      source : (a b : ℕ) → source-to-reader log a b ≡ true → committed log b ≡ true
+      source a b w = let r = some→ w in rw (is→ {m = tx log (r .0)} {n = b} (and→ (r .2) .1)) at (and→ (and→ (and→ (r .2) .0) .0) .1)

@@ -1,0 +1,87 @@
+use mathlib.Core.Path.{_≡_, sym, ap, _∙_}
+use mathlib.Core.Logic.{⊎-elim}
+use Prim.Native.Nat.{ℕ, _+_, _-_, _*_, _≤_, _<_}
+use native.Mathlib.Omega.{arith}
+use borrow.Author.Needs.{needs}
+use lib.ListN.{length, getD, length-set}
+use Rattle.graph.specs.Tests.{_is_, fails, if_then_else_}
+use Rattle.verdict.specs.Limits.{transactions, objects}
+use Rattle.verdict.specs.Log.{writes}
+use Rattle.graph.proofs.Truth.{→fails, →not-fails, →is, →isnt, if-true, if-false}
+use Rattle.verdict.proofs.Marks.{table-more}
+use Rattle.verdict.proofs.search.after.Statement.{statement}
+use Rattle.verdict.proofs.search.after.Tie as tie
+
+abbrev Inv-loop : tie.InvT-loop
+Inv-loop writes t last row next₀ x₀ next x = (x ≤ 64) × (row ≡ t * objects) × (t ≤ transactions) × (length next ≡ 64) × ((u : ℕ) → u < x → getD next u 0 ≡ (if fails (getD writes (t * objects + u) 0 is 0) then t else getD last u 0))
+
+abbrev μ-loop : tie.MeasureT-loop
+μ-loop writes t last row next₀ x₀ next x = 64 - x
+
+index-requires : tie.Need-index-requires Inv-loop μ-loop
+index-requires c κs = search needs
+
+mul-row : tie.Need-mul-row Inv-loop μ-loop
+mul-row c = omega (arith, c .index .ensures, c .before .pre)
+
+loop-holds : tie.Need-loop-holds Inv-loop μ-loop
+loop-holds c = (omega arith, ap (λ (n : ℕ). n * 64) (c .index .ensures), c .before .pre, search needs, λ u h. absurd (omega (arith, h)))
+
+mul-v : tie.Need-mul-v Inv-loop μ-loop
+mul-v c = omega arith
+
+array-read-v : tie.Need-array-read-v Inv-loop μ-loop
+array-read-v c = omega arith
+
+add-if1 : tie.Need-add-if1 Inv-loop μ-loop
+add-if1 c = omega arith
+
+element-copy-out-if1 : tie.Need-element-copy-out-if1 Inv-loop μ-loop
+element-copy-out-if1 c = omega arith
+
+mul-next : tie.Need-mul-next Inv-loop μ-loop
+mul-next c = omega arith
+
+array-write-next : tie.Need-array-write-next Inv-loop μ-loop
+array-write-next c = omega arith
+
+add-x : tie.Need-add-x Inv-loop μ-loop
+add-x c = omega arith
+
+loop-less : tie.Need-loop-less Inv-loop μ-loop
+loop-less c = omega arith
+
+loop-again : tie.Need-loop-again Inv-loop μ-loop
+loop-again c =
+    let at = c .before .before .before in
+    let a = at .before .before .args in (
+      omega arith,
+      at .loop .inv .1,
+      at .loop .inv .2,
+      length-set (at .loop .next) (at .loop .x) (c .if1 .v) ∙ at .loop .inv .3,
+      table-more (λ u. if fails (getD (a .writes .now) (a .t * objects + u) 0 is 0) then a .t else getD (a .t2) u 0) (at .loop .next) (at .loop .x) (c .if1 .v) (omega (arith, at .loop .inv .3)) (at .loop .inv .4)
+          (⊎-elim (λ w. w .1 ∙ sym (if-true _ _ (→fails (→isnt (rw (at .loop .inv .1) at (w .0 .taken)))))) (λ w. w .1 ∙ sym (if-false _ _ (→not-fails (→is (rw (at .loop .inv .1) at (w .0 .left)))))) (c .if1 .came)),
+    )
+
+returns : tie.Need-returns Inv-loop μ-loop
+returns c = let e : c .before .loop .x ≡ 64 = omega arith in λ u h. c .before .loop .inv .4 u (omega (arith, h))
+
+pub after-spec : {M : Type 1} → statement M
+after-spec =
+    tie.close
+    (tie.spec
+    Inv-loop
+    μ-loop
+    index-requires
+    mul-row
+    loop-holds
+    mul-v
+    array-read-v
+    add-if1
+    element-copy-out-if1
+    mul-next
+    array-write-next
+    add-x
+    loop-less
+    loop-again
+    returns)

@@ -1,0 +1,57 @@
+use mathlib.Core.Path.{_≡_, refl, sym, _∙_}
+use Prim.Native.Nat.{_-_, _/_, _≤_}
+use native.Mathlib.Numerals.{add-one}
+use lib.ListN.{length}
+use Rattle.graph.specs.Tests.{some}
+use Rattle.verdict.specs.Log.{steps}
+use Rattle.verdict.specs.Walk.{no-edge, versions-until, Matrix}
+use Rattle.verdict.proofs.Matrices.{same-edges}
+use Rattle.verdict.proofs.VersionGraph.{all-versions}
+use native.Mathlib.Omega.{arith}
+use Rattle.verdict.proofs.version_graph.draw.Statement.{statement}
+use Rattle.verdict.proofs.version_graph.draw.Tie as tie
+
+abbrev Inv-loop : tie.InvT-loop
+Inv-loop log work₀ part n i₀ work i = (n ≡ length log / 4) × (i ≤ n) × Matrix (versions-until log i) work
+
+abbrev μ-loop : tie.MeasureT-loop
+μ-loop log work₀ part n i₀ work i = n - i
+
+loop-holds : tie.Need-loop-holds Inv-loop μ-loop
+unfolding versions-until some no-edge
+loop-holds c = (refl, omega arith, same-edges (c .before .before .pre .2) (λ a b. refl))
+
+mark-step-requires : tie.Need-mark-step-requires Inv-loop μ-loop
+mark-step-requires c κs = let here = c .before .before .before .before .before in (here .pre .0, omega arith, here .pre .1, c .before .before .loop .inv .2)
+
+add-i : tie.Need-add-i Inv-loop μ-loop
+add-i c = omega arith
+
+loop-less : tie.Need-loop-less Inv-loop μ-loop
+loop-less c = omega arith
+
+loop-again : tie.Need-loop-again Inv-loop μ-loop
+loop-again c = (refl, omega arith, rw (add-one (c .before .before .before .before .before .loop .i)) (c .before .before .mark-step .ensures))
+
+same-length : tie.Need-same-length Inv-loop μ-loop
+same-length c = c .before .loop .inv .2 .size ∙ sym (c .before .before .before .before .pre .2 .size)
+
+returns : tie.Need-returns Inv-loop μ-loop
+unfolding steps
+returns c = let here = c .before .before .before .before in
+    let e : c .before .loop .i ≡ length (here .args .log .now) / 4 = omega arith in
+    same-edges (rw e at (c .before .loop .inv .2)) (all-versions _)
+
+pub draw-spec : {M : Type 1} → statement M
+draw-spec =
+    tie.close
+    (tie.spec
+    Inv-loop
+    μ-loop
+    loop-holds
+    mark-step-requires
+    add-i
+    loop-less
+    loop-again
+    same-length
+    returns)

@@ -1,0 +1,242 @@
+// The exact search: it places one transaction after another, the lowest first, and cuts off where loose replay fails.
+use crate::limits::Object;
+use crate::limits::Transaction;
+use crate::walk::index;
+use crate::walk::seen;
+use crate::walk::writes_within;
+ghost use mathlib.Core.Path.{_≡_};
+ghost use mathlib.Core.Bool.{true};
+ghost use Prim.Native.Nat.{ℕ, suc, _≤_, _<_, _+_, _*_};
+ghost use lib.ListN.{length, getD, take};
+ghost use Rattle.graph.specs.Tests.{_is_, _and_, fails, every, count, if_then_else_};
+ghost use Rattle.verdict.specs.Limits.{transactions, objects, most-searched};
+ghost use Rattle.verdict.specs.Log.{steps, committed, writer};
+ghost use Rattle.verdict.specs.Refusal.{taken, log-refusal};
+ghost use Rattle.verdict.specs.Clean.{is-clean, judged-other};
+ghost use Rattle.verdict.specs.Walk.{Marked};
+ghost use Rattle.verdict.specs.Placing.{needing, allows, asks, need, Needs, Writes, Placed, Searched};
+
+// Whether step i is a judged read of x by t from another.
+fn asks_for(log: &[u16], t: u16, x: u16, i: usize) -> bool
+    requires { ⌜ 4 * i + 4 ≤ length (now log) ⌝ }
+    ensures { λ r. ⌜ r ≡ asks (now (log .entry)) t x i ⌝ }
+{
+    if log[4 * i] != 2 {
+        return false;
+    }
+    if log[4 * i + 1] != t {
+        return false;
+    }
+    if log[4 * i + 2] != x {
+        return false;
+    }
+    if log[4 * i + 3] == t {
+        return false;
+    }
+    seen(log, log.len() / 4, 4, t)
+}
+
+// The need with one more source.
+fn with_source(e: u16, s: u16) -> u16
+    requires { ⌜ s ≤ transactions ⌝ }
+    ensures { λ r. ⌜ r ≡ needing e s ⌝ }
+{
+    if e == 0 {
+        return s + 1;
+    }
+    if e == s + 1 {
+        return e;
+    }
+    255
+}
+
+// What t needs to find of x.
+fn needed(log: &[u16], t: u16, x: u16) -> u16
+    requires { ⌜ log-refusal (now log) ≡ taken ⌝ }
+    ensures { λ r. ⌜ r ≡ need (now (log .entry)) t x (steps (now (log .entry))) ⌝ }
+{
+    let n = log.len() / 4;
+    let mut e: u16 = 0;
+    let mut i = 0;
+    while i < n {
+        if asks_for(log, t, x, i) {
+            e = with_source(e, log[4 * i + 3]);
+        }
+        i += 1;
+    }
+    e
+}
+
+// The marks of the committed transactions.
+pub fn committed_marks(log: &[u16]) -> [u8; Transaction::TABLE]
+    ensures { λ r. ⌜ Marked (suc transactions) (committed (now (log .entry))) r ⌝ }
+{
+    let n = log.len() / 4;
+    let mut marks = [0u8; Transaction::TABLE];
+    let mut t: u16 = 0;
+    while t <= Transaction::LIMIT {
+        let mut e: u8 = 0;
+        if seen(log, n, 4, t) {
+            e = 1;
+        }
+        marks[t as usize] = e;
+        t += 1;
+    }
+    marks
+}
+
+// How many marks are set.
+fn count_marks(marks: &[u8; Transaction::TABLE]) -> usize
+    ensures { λ r. ⌜ r ≡ count (suc transactions) (λ t. fails (getD (now (marks .entry)) t 0 is 0)) ⌝ }
+{
+    let mut total: usize = 0;
+    let mut t: usize = 0;
+    while t < Transaction::TABLE {
+        if marks[t] != 0 {
+            total += 1;
+        }
+        t += 1;
+    }
+    total
+}
+
+// What each committed transaction needs to find of each object.
+fn need_table(log: &[u16], marks: &[u8; Transaction::TABLE]) -> [u16; Transaction::PAIRS]
+    requires { ⌜ (log-refusal (now log) ≡ taken) × Marked (suc transactions) (committed (now log)) (now marks) ⌝ }
+    ensures { λ r. ⌜ Needs (now (log .entry)) r ⌝ }
+{
+    let mut table = [0u16; Transaction::PAIRS];
+    let mut k: usize = 0;
+    while k < Transaction::PAIRS {
+        let mut e: u16 = 0;
+        if marks[k / Object::TABLE] != 0 {
+            e = needed(log, (k / Object::TABLE) as u16, (k % Object::TABLE) as u16);
+        }
+        table[k] = e;
+        k += 1;
+    }
+    table
+}
+
+// Which objects each committed transaction writes.
+fn write_table(log: &[u16], marks: &[u8; Transaction::TABLE]) -> [u8; Transaction::PAIRS]
+    requires { ⌜ Marked (suc transactions) (committed (now log)) (now marks) ⌝ }
+    ensures { λ r. ⌜ Writes (now (log .entry)) r ⌝ }
+{
+    let n = log.len() / 4;
+    let mut table = [0u8; Transaction::PAIRS];
+    let mut k: usize = 0;
+    while k < Transaction::PAIRS {
+        let mut e: u8 = 0;
+        if marks[k / Object::TABLE] != 0 {
+            if writes_within(
+                log,
+                0,
+                n,
+                (k / Object::TABLE) as u16,
+                (k % Object::TABLE) as u16,
+            ) {
+                e = 1;
+            }
+        }
+        table[k] = e;
+        k += 1;
+    }
+    table
+}
+
+// Whether what is last written of each object is what t needs to find.
+fn fits(need: &[u16; Transaction::PAIRS], last: &[u16; Object::TABLE], t: u16) -> bool
+    requires { ⌜ t ≤ transactions ⌝ }
+    ensures { λ r. ⌜ r ≡ every objects (λ x. allows (getD (now (need .entry)) (t * objects + x) 0) (getD (now (last .entry)) x 0)) ⌝ }
+{
+    let row = index(t) * Object::TABLE;
+    let mut x: usize = 0;
+    while x < Object::TABLE {
+        let e = need[row + x];
+        let v = last[x];
+        if e != 0 {
+            if e - 1 != v {
+                return false;
+            }
+        }
+        x += 1;
+    }
+    true
+}
+
+// What is last written of each object when t has run.
+fn after(
+    writes: &[u8; Transaction::PAIRS],
+    last: [u16; Object::TABLE],
+    t: u16,
+) -> [u16; Object::TABLE]
+    requires { ⌜ t ≤ transactions ⌝ }
+    ensures { λ r. ⌜ ((x : ℕ) → x < objects
+        → getD r x 0 ≡ (if fails (getD (now (writes .entry)) (t * objects + x) 0 is 0) then t else getD last x 0)) ⌝ }
+{
+    let row = index(t) * Object::TABLE;
+    let mut next = [0u16; Object::TABLE];
+    let mut x: usize = 0;
+    while x < Object::TABLE {
+        let mut v = last[x];
+        if writes[row + x] != 0 {
+            v = t;
+        }
+        next[x] = v;
+        x += 1;
+    }
+    next
+}
+
+// What a search finds: whether there is an order, and the order.
+struct Search {
+    found: bool,
+    order: [u16; Transaction::SEARCHED],
+}
+
+// The first order that explains loosely and begins with the first `at` placed; `left` more are to be placed.
+fn place(
+    log: &[u16],
+    need: &[u16; Transaction::PAIRS],
+    writes: &[u8; Transaction::PAIRS],
+    free: [u8; Transaction::TABLE],
+    last: [u16; Object::TABLE],
+    placed: [u16; Transaction::SEARCHED],
+    at: usize,
+    left: usize,
+) -> Search
+    requires { ⌜ (log-refusal (now log) ≡ taken) × (is-clean (now log) ≡ true) × Needs (now log) (now need) × Writes (now log) (now writes)
+        × (at + left ≤ most-searched) × (left ≡ count (suc transactions) (λ t. fails (getD free t 0 is 0)))
+        × Placed (now log) (take at placed) free last ⌝ }
+    ensures { λ r. ⌜ Searched (now (log .entry)) (take at placed) (at + left) (r .found) (r .order) ⌝ }
+{
+    if left == 0 {
+        return Search {
+            found: true,
+            order: placed,
+        };
+    }
+    let mut t: u16 = 1;
+    while t <= Transaction::LIMIT {
+        if free[t as usize] != 0 {
+            if fits(need, &last, t) {
+                let mut rest = free;
+                rest[t as usize] = 0;
+                let mut next = placed;
+                next[at] = t;
+                let then = after(writes, last, t);
+                let behind = place(log, need, writes, rest, then, next, at + 1, left - 1);
+                let found = behind.found;
+                if found {
+                    return behind;
+                }
+            }
+        }
+        t += 1;
+    }
+    Search {
+        found: false,
+        order: placed,
+    }
+}
