@@ -64,6 +64,38 @@ module _ (v w l : List ℕ) (at : ℕ) (fits : Fits (v ++ w) at l) where
         in
         (second .0 ∙ ap (λ (k : ℕ). k + length w) (put .0) ∙ sym p, second .1 ∙ rw (put .0, put .1, q, r, p) (simp append-assoc))
 
+-- four words
+module _ (a b c d l : List ℕ) (at : ℕ) (fits : Fits (a ++ b ++ c ++ d) at l) where
+  three-fit : Fits (a ++ b ++ c) at l
+  three-fit = first-fits (a ++ b ++ c) d l at fits
+
+  two-fit : Fits (a ++ b) at l
+  two-fit = first-fits (a ++ b) c l at three-fit
+
+  pub fits-first : Fits a at l
+  fits-first = first-fits a b l at two-fit
+
+  module _ {next : ℕ} {l′ : List ℕ} (put : Puts a at l next l′) where
+    pub fits-second : Fits b next l′
+    fits-second = then-fits a b l at two-fit put
+
+    module _ {next₂ : ℕ} {l₂ : List ℕ} (put₂ : Puts b next l′ next₂ l₂) where
+      two-put : Puts (a ++ b) at l next₂ l₂
+      two-put = both-put a b l at two-fit put put₂
+
+      pub fits-third : Fits c next₂ l₂
+      fits-third = then-fits (a ++ b) c l at three-fit two-put
+
+      module _ {next₃ : ℕ} {l₃ : List ℕ} (put₃ : Puts c next₂ l₂ next₃ l₃) where
+        three-put : Puts (a ++ b ++ c) at l next₃ l₃
+        three-put = both-put (a ++ b) c l at three-fit two-put put₃
+
+        pub fits-fourth : Fits d next₃ l₃
+        fits-fourth = then-fits (a ++ b ++ c) d l at fits three-put
+
+        pub four-put : {end : ℕ} {l₄ : List ℕ} → Puts d next₃ l₃ end l₄ → Puts (a ++ b ++ c ++ d) at l end l₄
+        four-put = both-put (a ++ b ++ c) d l at fits three-put
+
 -- an answer that is known by its case
 module _ {A : Type 0} (line : A → List ℕ) {a b : A} (known : a ≡ b) (l : List ℕ) (at : ℕ) where
   pub known-fits : Fits (line a) at l → Fits (line b) at l

@@ -243,7 +243,7 @@ module _ (log : List ℕ) (well : log-refusal log ≡ taken) where
           )
       go false c = omega arith
 
-  first-fit : length (first-lines log) ≤ 4 * most-short
+  pub first-fit : length (first-lines log) ≤ 4 * most-short
   unfolding first-lines
   first-fit =
       let a = header (steps log) in

@@ -41,7 +41,7 @@ show-requires c κs = let here = c .before .before .before .before .before .befo
 
 returns : tie.Need-returns
 unfolding said-refusal work-refusal witness-refusal
-returns c = 
+returns c =
     let here = c .before .before .before .before .before .before .before in
     turned-away _ _ (not-admitted (here .args .log .now) (here .args .work .now) (here .args .witness .now) (c .before .before .before .admit-witness .ensures) (c .before .admitted .given .1)) refl refl
 
@@ -54,7 +54,7 @@ same-length-2 c = search needs
 returns-2 : tie.Need-returns-2
 unfolding said-refusal work-refusal witness-refusal
 returns-2 c = let here = c .before .before .before .before .before .before .before .before .before .before .before .before .before .before .before .before .before .before .before .before .before .before .before in
-    let a = admitted (here .args .log .now) (here .args .work .now) (here .args .witness .now) (c .before .before .before .before .before .before .before .before .before .before .before .before .before .before .before .before .before .before .before .admit-witness .ensures) (c .before .before .before .before .before .before .before .before .before .before .before .before .before .before .before .before .before .enum-told .given .1) in 
+    let a = admitted (here .args .log .now) (here .args .work .now) (here .args .witness .now) (c .before .before .before .before .before .before .before .before .before .before .before .before .before .before .before .before .before .before .before .admit-witness .ensures) (c .before .before .before .before .before .before .before .before .before .before .before .before .before .before .before .before .before .enum-told .given .1) in
     let s = shown-of (c .before .before .before .before .before .before .before .before .before .before .before .before .committed-ones .ensures) (c .before .before .before .before .before .before .before .before .before .draw .ensures) (conflict-between (here .args .log .now)) (c .before .before .before .before .show .ensures) in
     answered (shown (s .shown)) (sym (a .taken-all)) (conflict {s = s .shown} (s .right)) (s .says) (s .leaves)
 
