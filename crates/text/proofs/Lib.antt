@@ -7,6 +7,7 @@ pub mod Forms
 pub mod Runs
 pub mod Compare
 pub mod Puts
+pub mod Clears
 pub mod Only
 pub mod Calls
 pub mod Heards

@@ -1,12 +1,13 @@
 -- What a call of `report` answers, and what it leaves in the lent buffers.
 use mathlib.Core.Path.{_≡_}
+use mathlib.Core.Bool.{Bool}
 use mathlib.Core.List.{List, [], _∷_}
 use Prim.Native.Nat.{ℕ}
 use lib.ListN.{length}
-use Rattle.graph.specs.Tests.{_is_, fails}
+use Rattle.graph.specs.Tests.{_is_, _and_, fails}
 use Rattle.graph.specs.Lists.{zeros, entries}
 use Rattle.verdict.specs.Limits.{witness-entries, work-bytes}
-use Rattle.verdict.specs.Refusal.{Refusal, _at_when_, _else-try_, work-refusal, witness-refusal}
+use Rattle.verdict.specs.Refusal.{Refusal, _at_when_}
 use Rattle.verdict.specs.Call.{Call}
 use Rattle.text.specs.ReadCall.{step-entries}
 use Rattle.text.specs.Report.{ReportOf}
@@ -23,13 +24,13 @@ most-long = 544
 abbrev pub most-short : ℕ
 most-short = 64
 
+-- how many entries the lent buffers have to have
+unfoldable pub sized : (steps work witness out : ℕ) → Bool
+sized steps work witness out = steps is step-entries and work is work-bytes and witness is witness-entries and out is report-bytes
+
 -- 12: a lent buffer has a wrong length
 unfoldable pub buffers-refusal : (steps work witness out : List ℕ) → Refusal
-buffers-refusal steps work witness out =
-    12 at 0 when fails (length steps is step-entries)
-    else-try work-refusal work
-    else-try witness-refusal witness
-    else-try 12 at 0 when fails (length out is report-bytes)
+buffers-refusal steps work witness out = 12 at 0 when fails (sized (length steps) (length work) (length witness) (length out))
 
 -- the length of the report is answered
 unfoldable pub said-length : List ℕ → ReportAnswer
