@@ -13,10 +13,12 @@ pub mod Matrices
 pub mod Versions
 pub mod ConflictGraph
 pub mod Finds
+pub mod Counted
 pub mod Center
 pub mod Judge
 pub mod VersionGraph
 pub mod Some
+pub mod Searching
 pub mod Only
 pub mod Listing
 pub mod Samples

@@ -42,7 +42,7 @@ unfoldable pub candidate : List ℕ → ℕ → ℕ → ℕ → Bool
 candidate log x v j = after log v upto j and commits-writer log x j
 
 module _ {most : ℕ} (log : List ℕ) (well : Well most log) where
-  commit-step-is : (t : ℕ) → committed log t ≡ true → (commit-step log t < steps log) × (commits log t (commit-step log t) ≡ true)
+  pub commit-step-is : (t : ℕ) → committed log t ≡ true → (commit-step log t < steps log) × (commits log t (commit-step log t) ≡ true)
   unfolding committed commit-step
   commit-step-is t h = let r = lowest-is (commits log t) h in (r .0, r .1)
 

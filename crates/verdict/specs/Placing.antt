@@ -5,13 +5,17 @@ use mathlib.Core.List.{List, [], _∷_, _++_}
 use Prim.Native.Nat.{ℕ, zero, suc, _+_, _*_, _≤_, _<_}
 use lib.ListN.{getD, take}
 use Rattle.graph.specs.Tests.{_is_, _and_, _or_, _implies_, fails, if_then_else_, some, every}
-use Rattle.graph.specs.Lists.{member, all, distinct}
+use Rattle.graph.specs.Lists.{member, all, distinct, entries}
 use Rattle.graph.specs.First.{dictionary, First, Never}
-use Rattle.verdict.specs.Limits.{transactions, objects}
+use Rattle.verdict.specs.Limits.{transactions, objects, witness-entries}
 use Rattle.verdict.specs.Log.{steps, tx, obj, src, committed, writer}
 use Rattle.verdict.specs.Clean.{judged-other}
 use Rattle.verdict.specs.Replay.{finds, explains-loosely}
 use Rattle.verdict.specs.Walk.{Marked}
+use Rattle.verdict.specs.Answer as paper
+use Rattle.verdict.specs.Exact.{Exact}
+use Rattle.verdict.specs.Said.{said, witness}
+use Rattle.verdict.specs.declared.Answer.{Answer}
 
 -- a need is 0 for none, a source and 1, or more than any of these where no source will do
 unfoldable pub barred : ℕ
@@ -60,3 +64,10 @@ module _ (log : List ℕ) where
   pub data Searched (p : List ℕ) (n : ℕ) : Bool → List ℕ → Type 0 where
     found : {order : List ℕ} (u : List ℕ) → First dictionary (λ v. explains-loosely transactions log (p ++ v)) u → take n order ≡ p ++ u → Searched p n true order
     missed : {order : List ℕ} → Never (λ v. explains-loosely transactions log (p ++ v)) → Searched p n false order
+
+-- what the exact verdict answers of a clean log, and its witness
+pub record Found (log : List ℕ) (r : Answer) (buffer : List ℕ) : Type 0 where
+  pub answer : paper.Answer
+  pub right : Exact transactions log answer
+  pub says : r ≡ said answer
+  pub leaves : buffer ≡ entries witness-entries (witness answer)

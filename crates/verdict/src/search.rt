@@ -1,4 +1,5 @@
 // The exact search: it places one transaction after another, the lowest first, and cuts off where loose replay fails.
+use crate::Answer;
 use crate::limits::Object;
 use crate::limits::Transaction;
 use crate::walk::index;
@@ -9,12 +10,13 @@ ghost use mathlib.Core.Bool.{true};
 ghost use Prim.Native.Nat.{ℕ, suc, _≤_, _<_, _+_, _*_};
 ghost use lib.ListN.{length, getD, take};
 ghost use Rattle.graph.specs.Tests.{_is_, _and_, fails, every, count, if_then_else_};
-ghost use Rattle.verdict.specs.Limits.{transactions, objects, most-searched};
-ghost use Rattle.verdict.specs.Log.{steps, committed, writer};
+ghost use Rattle.verdict.specs.Limits.{transactions, objects, most-searched, witness-entries};
+ghost use Rattle.verdict.specs.Log.{steps, committed, writer, committed-count};
 ghost use Rattle.verdict.specs.Refusal.{taken, log-refusal};
 ghost use Rattle.verdict.specs.Clean.{is-clean, judged-other};
+ghost use Rattle.graph.specs.Lists.{zeros, entries};
 ghost use Rattle.verdict.specs.Walk.{Marked};
-ghost use Rattle.verdict.specs.Placing.{needing, allows, asks, need, Needs, Writes, Placed, Searched};
+ghost use Rattle.verdict.specs.Placing.{needing, allows, asks, need, Needs, Writes, Placed, Searched, Found};
 
 // Whether step i is a judged read of x by t from another.
 fn asks_for(log: &[u16], t: u16, x: u16, i: usize) -> bool
@@ -239,4 +241,37 @@ fn place(
         found: false,
         order: placed,
     }
+}
+
+// Writes the first n of the order into an empty witness.
+fn put_order(witness: &mut [u16], order: [u16; Transaction::SEARCHED], n: usize)
+    requires { ⌜ (n ≤ most-searched) × (now witness ≡ zeros witness-entries) ⌝ }
+    ensures { λ _. ⌜ now (witness .exit) ≡ entries witness-entries (take n order) ⌝ }
+{
+    let mut i: usize = 0;
+    while i < n {
+        witness[i] = order[i];
+        i += 1;
+    }
+}
+
+// The first order that explains a clean, well-formed log loosely, written into an empty witness, or that there is none.
+fn find_order(log: &[u16], witness: &mut [u16]) -> Answer
+    requires { ⌜ (log-refusal (now log) ≡ taken) × (is-clean (now log) ≡ true) × (committed-count (now log) ≤ most-searched) × (now witness ≡ zeros witness-entries) ⌝ }
+    ensures { λ r. ⌜ Found (now (log .entry)) r (now (witness .exit)) ⌝ }
+{
+    let marks = committed_marks(log);
+    let need = need_table(log, &marks);
+    let writes = write_table(log, &marks);
+    let left = count_marks(&marks);
+    let last = [0u16; Object::TABLE];
+    let placed = [0u16; Transaction::SEARCHED];
+    let result = place(log, &need, &writes, marks, last, placed, 0, left);
+    let found = result.found;
+    if !found {
+        return Answer::Nothing;
+    }
+    let order = result.order;
+    put_order(witness, order, left);
+    Answer::Order(left)
 }

@@ -1,0 +1,86 @@
+-- The exact search from its beginning to its answer.
+use mathlib.Core.Path.{_≡_, refl, sym, ap, subst, _∙_}
+use mathlib.Core.Bool.{Bool, true, false, false≢true}
+use mathlib.Core.List.{List, [], _∷_, _++_}
+use Prim.Native.Nat.{ℕ, zero, suc, _+_, _-_, _≤_, _<_}
+use native.Mathlib.Omega.{arith}
+use lib.ListN.{length, getD, set, take, replicate, getD-replicate}
+use lib.Seq.{length-take-le, take-suc}
+use native.Mathlib.Numerals.{add-one}
+use Rattle.graph.specs.Tests.{_is_, _and_, fails, count}
+use Rattle.graph.specs.Lists.{member, all, distinct, zeros, entries}
+use Rattle.graph.specs.First.{dictionary, First}
+use Rattle.graph.specs.Shows.{order}
+use Rattle.graph.proofs.Truth.{and-true-right, →fails, count-same}
+use Rattle.verdict.specs.Limits.{transactions, objects, most-searched, witness-entries}
+use Rattle.verdict.specs.Log.{committed, committed-count}
+use Rattle.verdict.specs.Refusal.{taken, log-refusal}
+use Rattle.verdict.specs.Clean.{clean, cleanness, is-clean}
+use Rattle.verdict.specs.Replay.{explains-loosely}
+use Rattle.verdict.specs.Answer as paper
+use Rattle.verdict.specs.Exact.{Exact, exact, exact-none}
+use Rattle.verdict.specs.Said.{said, witness}
+use Rattle.verdict.specs.Walk.{Marked}
+use Rattle.verdict.specs.Placing.{ran, Placed, Searched, found, missed, Found}
+use Rattle.verdict.specs.declared.Answer.the-variants.{Order, Nothing}
+use Rattle.verdict.proofs.Judge.{clean-cleanness}
+use Rattle.verdict.proofs.WellFormed.{well-formed}
+use Rattle.verdict.proofs.Counted.{committed-fit}
+
+-- no more are left than the search takes
+pub few-enough : (log marks : List ℕ) → log-refusal log ≡ taken → committed-count log ≤ most-searched → Marked (suc transactions) (committed log) marks
+    → count (suc transactions) (λ t. fails (getD marks t 0 is 0)) ≤ most-searched
+few-enough log marks well h m =
+    let e : count (suc transactions) (λ t. fails (getD marks t 0 is 0)) ≡ count (suc transactions) (committed log) = count-same (suc transactions) _ _ (m .mark) in
+    let f : count (suc transactions) (committed log) ≤ committed-count log = committed-fit log (well-formed log well) in
+    omega arith
+
+-- at first nothing is placed
+pub nothing-placed : (log marks : List ℕ) → Marked (suc transactions) (committed log) marks → Placed log [] marks (replicate 64 0)
+unfolding distinct all ran
+nothing-placed log marks m =
+    record {
+      different = refl;
+      members = refl;
+      right = λ i h j k. absurd (false≢true (unfold member in k));
+      left = record { mark = λ t h. m .mark t h ∙ sym (and-true-right _ (→fails (unfold member in refl))) };
+      writers = λ x h. getD-replicate 64 x 0 0 h;
+    }
+
+-- what is found is the answer
+pub order-found : (log : List ℕ) (n : ℕ) (array buffer : List ℕ) → n ≤ length array → Searched log [] n true array → buffer ≡ entries witness-entries (take n array) → Found log (Order n) buffer
+unfolding said witness
+order-found log n array buffer h (found u f e) b =
+    record {
+      answer = paper.shown (order (take n array));
+      right = exact (subst (First dictionary (explains-loosely transactions log)) (sym e) f);
+      says = ap Order (sym (length-take-le n array h));
+      leaves = b;
+    }
+
+pub none-found : (log : List ℕ) (n : ℕ) (array buffer : List ℕ) → is-clean log ≡ true → Searched log [] n false array → buffer ≡ zeros witness-entries → Found log Nothing buffer
+unfolding said witness entries
+none-found log n array buffer c (missed g) b = record { answer = paper.none; right = exact-none (clean-cleanness log c) g; says = refl; leaves = b }
+
+-- a list written into an empty buffer, one entry more
+pub put-entry : (n : ℕ) (w : List ℕ) (v : ℕ) → length w < n → set (entries n w) (length w) v ≡ entries n (w ++ v ∷ [])
+unfolding entries zeros
+put-entry n w v h =
+    let e : n - length w ≡ suc (n - suc (length w)) = omega arith in
+    let f : n - length (w ++ v ∷ []) ≡ n - suc (length w) = let l : length (w ++ v ∷ []) ≡ suc (length w) = more w in omega arith in
+    rw (e, f) (put w (n - suc (length w)))
+  where
+    more : (w : List ℕ) → length (w ++ v ∷ []) ≡ suc (length w)
+    more [] = refl
+    more (a ∷ w) = ap suc (more w)
+
+    put : (w : List ℕ) (k : ℕ) → set (w ++ replicate (suc k) 0) (length w) v ≡ (w ++ v ∷ []) ++ replicate k 0
+    put [] k = refl
+    put (a ∷ w) k = ap (λ (l : List ℕ). a ∷ l) (put w k)
+
+-- the first i of an array, and one more
+pub put-next : (n i : ℕ) (array : List ℕ) → i < length array → length array ≤ n → set (entries n (take i array)) i (getD array i 0) ≡ entries n (take (i + 1) array)
+put-next n i array h k =
+    let e : length (take i array) ≡ i = length-take-le i array (omega arith) in
+    rw (add-one i, take-suc array i 0 h)
+    (subst (λ (j : ℕ). set (entries n (take i array)) j (getD array i 0) ≡ entries n (take i array ++ getD array i 0 ∷ [])) e (put-entry n (take i array) (getD array i 0) (omega arith)))
