@@ -15,15 +15,21 @@ use Rattle.verdict.specs.Refusal.{Refusal, taken, refused, _at_when_, _else-try
 use Rattle.verdict.specs.Clean.{Fault, aborted-at, unfinal-at, Cleanness, clean, unclean, cleanness}
 use Rattle.verdict.specs.Snapshot.{Snapshot, snapshot, read-at, write-at-with, snapshot-verdict}
 use Rattle.verdict.specs.Answer.{Answer, shown, unclean-by}
-use Rattle.verdict.specs.Exact.{Exact}
 use Rattle.verdict.specs.Said.{said-fault, said-clean, said-snapshot, said, witness}
-use Rattle.verdict.specs.Call.{Call, turned-away, answered, leaves-witness, CleanCall, SnapshotCall, WitnessCall, ExactCall}
+use Rattle.verdict.specs.Call.{Call, turned-away, answered, leaves-witness, CleanCall, SnapshotCall, ConflictCall, VersionCall, ExactCall}
 use Rattle.verdict.specs.declared.CleanAnswer.{CleanAnswer}
 use Rattle.verdict.specs.declared.SnapshotAnswer.{SnapshotAnswer}
 use Rattle.verdict.specs.declared.Answer.{Answer as CodeAnswer}
+use Rattle.verdict.specs.declared.Answer.the-variants as the-answer
 use Rattle.verdict.proofs.Refused.{when-no}
 use Rattle.verdict.proofs.WellFormed.{refused≢taken, else-try→}
+use Rattle.text.specs.Bytes.{bytes}
+use Rattle.text.specs.Put.{Fits, Puts, PutsLine}
+use Rattle.text.specs.ReportLine.{answer-line}
+use Rattle.text.specs.Report.{ConflictLine, conflict-line, VersionLine, version-line, ExactLine, over-line, exact-line}
+use Rattle.text.specs.ReportCall.{most-long}
 use Rattle.text.specs.Heard.{heard-fault, heard-clean, heard-snapshot, heard, heard-entries}
+use Rattle.text.proofs.Puts.{known-fits, known-puts}
 
 -- what the code says is heard
 fault-heard : (f : Fault) → heard-fault (said-fault f) ≡ f
@@ -83,18 +89,27 @@ module _ (log work : List ℕ) (well : log-refusal log ≡ taken) (sized : lengt
   snapshot-heard (answered a e f g h) = ap heard-snapshot g ∙ snapshot-said a ∙ ap just f
 
 -- A VERDICT WITH A WITNESS
--- an answer that the verdict allows is heard, and its members are in the witness
-pub record Hears (verdict : Answer → Type 0) (r : CodeAnswer) (witness′ : List ℕ) : Type 0 where
-  pub a : Answer
-  pub allowed : verdict a
-  pub is-heard : heard witness′ r ≡ just a
+-- what is heard has a line that passes, and its members are in the witness
+pub record Hears (passes : List ℕ → Type 0) (key : List ℕ) (r : CodeAnswer) (witness′ : List ℕ) : Type 0 where
+  pub a : Option Answer
+  pub told : passes (answer-line key a)
+  pub is-heard : heard witness′ r ≡ a
   pub there : heard-entries r ≤ length witness′
+
+-- it has room where a long line has, and is put
+module _ {passes : List ℕ → Type 0} {key : List ℕ} {r : CodeAnswer} {witness′ : List ℕ} (h : Hears passes key r witness′)
+    (short : length (answer-line key (h .a)) ≤ most-long) (l : List ℕ) (place : ℕ) where
+  pub heard-fits : place + most-long ≤ length l → Fits (answer-line key (heard witness′ r)) place l
+  heard-fits k = known-fits (answer-line key) (sym (h .is-heard)) l place (omega arith)
+
+  pub heard-puts : {next : ℕ} {l′ : List ℕ} → Puts (answer-line key (heard witness′ r)) place l next l′ → PutsLine most-long passes place l next l′
+  heard-puts p = (answer-line key (h .a), h .told, short, known-puts (answer-line key) (sym (h .is-heard)) l place p)
 
 second-one : {v w x y : List ℕ} → v ∷ x ∷ [] ≡ w ∷ y ∷ [] → x ≡ y
 second-one e = cc
 
-hears : {verdict : Answer → Type 0} {r : CodeAnswer} {work′ witness′ : List ℕ} (a : Answer) → length witness′ ≡ witness-entries → verdict a → r ≡ said a
-    → work′ ∷ witness′ ∷ [] ≡ leaves-witness a → Hears verdict r witness′
+hears : {passes : List ℕ → Type 0} {key : List ℕ} {r : CodeAnswer} {work′ witness′ : List ℕ} (a : Answer) → length witness′ ≡ witness-entries
+    → passes (answer-line key (just a)) → r ≡ said a → work′ ∷ witness′ ∷ [] ≡ leaves-witness a → Hears passes key r witness′
 unfolding leaves-witness entries
 hears {r} {witness′} a size v e f =
     let w = witness a in
@@ -103,36 +118,41 @@ hears {r} {witness′} a size v e f =
     let h : length witness′ ≡ length w + length z = ap length g ∙ length-append w z in
     let t : take (length w) witness′ ≡ w = ap (take (length w)) g ∙ take-at w z (length w) refl in
     record {
-      a = a;
-      allowed = v;
+      a = just a;
+      told = v;
       is-heard = ap (heard witness′) e ∙ said-heard a witness′ t;
       there = subst (λ (x : CodeAnswer). heard-entries x ≤ length witness′) (sym e) (said-entries a (length witness′) (omega arith));
     }
-
--- what is heard of the exact search: 13 turns it away, or it has an answer
-pub data HearsExact (log : List ℕ) (r : CodeAnswer) (witness′ : List ℕ) : Type 0 where
-  hears-over : (n : ℕ) → search-refusal log ≡ refused 13 n → heard witness′ r ≡ none → heard-entries r ≤ length witness′ → HearsExact log r witness′
-  hears-exact : search-refusal log ≡ taken → Hears (Exact transactions log) r witness′ → HearsExact log r witness′
 
 when-number : (m q : ℕ) (b : Bool) {n p : ℕ} → (m at q when b) ≡ refused n p → n ≡ m
 unfolding _at_when_
 when-number m q true e = cc
 when-number m q false e = absurd (refused≢taken (sym e))
 
--- the lent buffers have the right lengths
-module _ (work witness work′ witness′ : List ℕ) (work-size : length work ≡ work-bytes) (size : length witness ≡ witness-entries) (size′ : length witness′ ≡ witness-entries) where
+-- a well-formed log, and lent buffers of the right lengths
+module _ (log work witness work′ witness′ : List ℕ) (well : log-refusal log ≡ taken)
+    (work-size : length work ≡ work-bytes) (size : length witness ≡ witness-entries) (size′ : length witness′ ≡ witness-entries) where
   no-12 : (f : Refusal) → (work-refusal work else-try witness-refusal witness else-try f) ≡ f
   unfolding _else-try_
   no-12 f = ap (λ (z : Refusal). z else-try (witness-refusal witness else-try f)) (work-taken work work-size) ∙ ap (λ (z : Refusal). z else-try f) (witness-taken witness size)
 
-  pub witness-heard : {refusal : Refusal} {verdict : Answer → Type 0} {r : CodeAnswer} → refusal ≡ taken → WitnessCall refusal verdict work witness r work′ witness′ → Hears verdict r witness′
-  witness-heard t (turned-away n p e f g) = absurd (refused≢taken (e ∙ no-12 _ ∙ t))
-  witness-heard t (answered a e f g h) = hears a size′ f g h
+  pub conflict-heard : {r : CodeAnswer} → ConflictCall log work witness r work′ witness′ → Hears (ConflictLine log) (bytes "conflict=") r witness′
+  conflict-heard (turned-away n p e f g) = absurd (refused≢taken (e ∙ no-12 _ ∙ well))
+  conflict-heard (answered a e f g h) = hears a size′ (conflict-line f) g h
 
-  pub exact-heard : (log : List ℕ) {r : CodeAnswer} → log-refusal log ≡ taken → ExactCall log work witness r work′ witness′ → HearsExact log r witness′
+  pub version-heard : {r : CodeAnswer} → VersionCall log work witness r work′ witness′ → Hears (VersionLine log) (bytes "version=") r witness′
+  version-heard (turned-away n p e f g) = absurd (refused≢taken (e ∙ no-12 _ ∙ well))
+  version-heard (answered a e f g h) = hears a size′ (version-line f) g h
+
+  -- 13 alone turns the search away
+  over-heard : {r : CodeAnswer} (n p : ℕ) → refused n p ≡ (work-refusal work else-try witness-refusal witness else-try (log-refusal log else-try search-refusal log))
+      → r ≡ the-answer.Refused n p → Hears (ExactLine log) (bytes "exact=") r witness′
   unfolding _else-try_ heard heard-entries search-refusal
-  exact-heard log {r} well (turned-away n p e f g) =
+  over-heard n p e f =
       let h : search-refusal log ≡ refused n p = sym (e ∙ no-12 _ ∙ ap (λ (z : Refusal). z else-try search-refusal log) well) in
       let i : n ≡ 13 = when-number 13 _ _ h in
-      hears-over p (rw i at h) (ap (heard witness′) f) (rw f (omega arith))
-  exact-heard log well (answered a e f g h) = hears-exact (else-try→ {a = log-refusal log} {b = search-refusal log} (sym (e ∙ no-12 _)) .1) (hears a size′ f g h)
+      record { a = none; told = over-line p (rw i at h); is-heard = ap (heard witness′) f; there = rw f (omega arith) }
+
+  pub exact-heard : {r : CodeAnswer} → ExactCall log work witness r work′ witness′ → Hears (ExactLine log) (bytes "exact=") r witness′
+  exact-heard (turned-away n p e f g) = over-heard n p e f
+  exact-heard (answered a e f g h) = hears a size′ (exact-line (else-try→ (sym (e ∙ no-12 _)) .1) f) g h

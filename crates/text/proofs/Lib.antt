@@ -10,7 +10,9 @@ pub mod Puts
 pub mod Clears
 pub mod Only
 pub mod Calls
+pub mod WasRead
 pub mod Heards
 pub mod Room
 pub mod ReportOnly
+pub mod ReportCalls
 pub mod Samples

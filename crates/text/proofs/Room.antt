@@ -297,7 +297,7 @@ reading-within (bad-line n i log rest h k s e f) = (omega arith, omega arith)
 reading-within (extra n b log rest h s e) = (omega arith, omega arith)
 
 -- EVERY REPORT HAS ROOM
-log-report-fits : {log w : List ℕ} → LogReport log w → length w ≤ report-bytes
+pub log-report-fits : {log w : List ℕ} → LogReport log w → length w ≤ report-bytes
 log-report-fits {log} (log-refused n p e) = let r = log-within log n p e in omega (arith, refused-length n p (r .0) (r .1))
 log-report-fits {log} (judged {conflict = c} {version = v} {exact = x} well a b d) =
     let f = first-lines log in

@@ -109,7 +109,13 @@ fn put_log(log: &[u16], work: &mut [u8], witness: &mut [u16], out: &mut [u8]) ->
 }
 
 // Puts the report of a text.
-fn put_text(text: &[u8], steps: &mut [u16], work: &mut [u8], witness: &mut [u16], out: &mut [u8]) -> usize
+fn put_text(
+    text: &[u8],
+    steps: &mut [u16],
+    work: &mut [u8],
+    witness: &mut [u16],
+    out: &mut [u8],
+) -> usize
     requires { ⌜ (length (now steps) ≡ step-entries) × (length (now work) ≡ work-bytes) × (length (now witness) ≡ witness-entries) × (length (now out) ≡ report-bytes) ⌝ }
     ensures { λ r. ⌜ PutsLine report-bytes (ReportOf (now (text .entry))) 0 (now (out .entry)) r (now (out .exit)) ⌝ }
 {
@@ -140,7 +146,13 @@ fn is_sized(steps: usize, work: usize, witness: usize, out: usize) -> bool
 }
 
 // The report of a text, put first in its buffer with zeros behind it. The other buffers are left all 0. A refusal, which is always 12, changes none.
-pub fn report(text: &[u8], steps: &mut [u16], work: &mut [u8], witness: &mut [u16], out: &mut [u8]) -> ReportAnswer
+pub fn report(
+    text: &[u8],
+    steps: &mut [u16],
+    work: &mut [u8],
+    witness: &mut [u16],
+    out: &mut [u8],
+) -> ReportAnswer
     ensures { λ r. ⌜ ReportCall (now (text .entry)) (now (steps .entry)) (now (work .entry)) (now (witness .entry)) (now (out .entry)) r (now (steps .exit)) (now (work .exit)) (now (witness .exit)) (now (out .exit)) ⌝ }
 {
     if !is_sized(steps.len(), work.len(), witness.len(), out.len()) {

@@ -48,7 +48,7 @@ committed-fit log well =
     let b : length steps-of ≡ count (steps log) (λ i. kind log i is 4) = let e = ascending-length (steps log) (λ i. kind log i is 4) [] in omega arith in
     let c : length (each (commit-step log) those) ≡ length those = each-length (commit-step log) those in
     let d : length (each (commit-step log) those) ≤ length steps-of = pigeon (each (commit-step log) those) steps-of
-        (each-distinct (commit-step log) those (rising-distinct those (ascending-rises (suc transactions) (committed log) [] (unfold rising in refl) (λ t m. absurd (false≢true (unfold member in m))))) (λ t u p q e. commit-injective log well t u (is-one t p) (is-one u q) e)) into in
+    (each-distinct (commit-step log) those (rising-distinct those (ascending-rises (suc transactions) (committed log) [] (unfold rising in refl) (λ t m. absurd (false≢true (unfold member in m))))) (λ t u p q e. commit-injective log well t u (is-one t p) (is-one u q) e)) into in
     omega arith
   where
     those : List ℕ

@@ -1,39 +1,19 @@
 -- `put_version` meets its contract: the verdict's answer is heard, and its line is put.
 use borrow.Author.Needs.{needs}
-use native.Mathlib.Omega.{arith}
-use mathlib.Core.Path.{sym, _∙_}
-use mathlib.Core.List.{List}
-use mathlib.Core.Option.{some as just}
-use Prim.Native.Nat.{ℕ, _≤_}
-use lib.ListN.{length}
-use Rattle.verdict.specs.Limits.{transactions}
-use Rattle.verdict.specs.Version.{Version}
+use mathlib.Core.Path.{_∙_}
 use Rattle.text.specs.Bytes.{bytes}
-use Rattle.text.specs.ReportLine.{answer-line}
-use Rattle.text.specs.Report.{VersionLine, version-line}
-use Rattle.text.specs.ReportCall.{most-long}
-use Rattle.text.proofs.Puts.{known-fits, known-puts}
-use Rattle.text.proofs.Heards.{Hears, witness-heard}
+use Rattle.text.specs.Report.{VersionLine}
+use Rattle.text.proofs.Heards.{Hears, heard-fits, heard-puts, version-heard}
 use Rattle.text.proofs.Room.{version-fits}
 use Rattle.text.proofs.report.put_version.Statement.{statement}
 use Rattle.text.proofs.report.put_version.Tie as tie
 
--- what is heard
-hear : (c : tie.After-version) → Hears (Version transactions (c .before .before .before .before .before .before .before .args .log .now)) (c .version .result) (c .version .last .1 .1 .0)
+hear : (c : tie.After-version) → Hears (VersionLine (c .before .before .before .before .before .before .before .args .log .now)) (bytes "version=") (c .version .result) (c .version .last .1 .1 .0)
 hear c =
     let b = c .before .before .before .before .before .before .before in
-    witness-heard (b .args .work .now) (b .args .witness .now) (c .version .last .1 .0) (c .version .last .1 .1 .0) (b .pre .1) (b .pre .2) (c .version .kept .1 .1 .0 ∙ b .pre .2)
-    (b .pre .0) (c .version .ensures)
-
--- its line
-abbrev told : tie.After-version → List ℕ
-told c = answer-line (bytes "version=") (just (hear c .a))
-
-told-line : (c : tie.After-version) → VersionLine (c .before .before .before .before .before .before .before .args .log .now) (told c)
-told-line c = version-line (hear c .allowed)
-
-told-length : (c : tie.After-version) → length (told c) ≤ most-long
-told-length c = version-fits (c .before .before .before .before .before .before .before .args .log .now) (c .before .before .before .before .before .before .before .pre .0) (told-line c)
+    let d = c .version in
+    version-heard (b .args .log .now) (b .args .work .now) (b .args .witness .now) (d .last .1 .0) (d .last .1 .1 .0) (b .pre .0) (b .pre .1) (b .pre .2)
+    (d .kept .1 .1 .0 ∙ b .pre .2) (d .ensures)
 
 version-requires : tie.Need-version-requires
 version-requires c κs = search needs
@@ -46,7 +26,7 @@ unfolding bytes
 put-answer-requires c κs =
     let b = c .before .before .before .before .before .before .before .before .before .before .before .before .before .before in
     let h = hear (c .before .before .before .before .before .before .before) in
-    (h .there, known-fits (answer-line (bytes "version=")) (sym (h .is-heard)) (b .args .out .now) (b .args .at) (omega (arith, told-length (c .before .before .before .before .before .before .before), b .pre .3)))
+    (h .there, heard-fits h (version-fits (b .args .log .now) (b .pre .0) (h .told)) (b .args .out .now) (b .args .at) (b .pre .3))
 
 same-length : tie.Need-same-length
 same-length c = search needs
@@ -61,8 +41,8 @@ returns : tie.Need-returns
 unfolding bytes
 returns c =
     let b = c .before .before .before .before .before .before .before .before .before .before .before .before .before .before .before .before .before in
-    let d = c .before .before .before .before .before .before .before .before .before .before in
-    (told d, told-line d, told-length d, known-puts (answer-line (bytes "version=")) (sym (hear d .is-heard)) (b .args .out .now) (b .args .at) (c .before .before .put-answer .ensures))
+    let h = hear (c .before .before .before .before .before .before .before .before .before .before) in
+    heard-puts h (version-fits (b .args .log .now) (b .pre .0) (h .told)) (b .args .out .now) (b .args .at) (c .before .before .put-answer .ensures)
 
 pub put-version-spec : {M : Type 1} → statement M
 put-version-spec =

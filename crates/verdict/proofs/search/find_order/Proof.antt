@@ -22,7 +22,7 @@ count-marks-requires : tie.Need-count-marks-requires
 count-marks-requires c κs = search needs
 
 place-requires : tie.Need-place-requires
-place-requires c κs = 
+place-requires c κs =
     let a = c .before .before .before .before .before .before .before .before .before .before .before in
     let log : List ℕ = a .args .log .now in
     let q = a .pre in
@@ -32,7 +32,7 @@ place-requires c κs =
     (q .0, q .1, c .before .before .before .before .before .before .need-table .ensures, c .before .before .before .before .write-table .ensures, omega (arith, e, few), e, nothing-placed log _ m)
 
 returns : tie.Need-returns
-returns c = 
+returns c =
     let a = c .before .before .before .before .before .before .before .before .before .before .before .before .before in
     let log : List ℕ = a .args .log .now in
     let q = a .pre in
@@ -42,7 +42,7 @@ returns c =
     none-found log _ _ _ (q .1) (rw (not-true (c .before .place .result .found) (c .if1 .taken)) at (c .before .place .ensures)) (q .3)
 
 put-order-requires : tie.Need-put-order-requires
-put-order-requires c κs = 
+put-order-requires c κs =
     let a = c .before .before .before .before .before .before .before .before .before .before .before .before .before .before .before in
     let log : List ℕ = a .args .log .now in
     let q = a .pre in
@@ -55,7 +55,7 @@ same-length : tie.Need-same-length
 same-length c = search needs
 
 returns-2 : tie.Need-returns-2
-returns-2 c = 
+returns-2 c =
     let a = c .before .before .before .before .before .before .before .before .before .before .before .before .before .before .before .before .before .before in
     let log : List ℕ = a .args .log .now in
     let q = a .pre in

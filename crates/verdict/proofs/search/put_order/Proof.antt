@@ -31,7 +31,7 @@ mul-witness-2 : tie.Need-mul-witness-2 Inv-loop μ-loop
 mul-witness-2 c = omega arith
 
 slice-write-witness : tie.Need-slice-write-witness Inv-loop μ-loop
-slice-write-witness c = 
+slice-write-witness c =
     let size : length (c .before .before .args .witness .now) ≡ 128 = ap length (c .before .before .pre .1) ∙ zeros-length 128 in
     omega (arith, c .before .loop .inv .3)
 
@@ -42,11 +42,15 @@ loop-less : tie.Need-loop-less Inv-loop μ-loop
 loop-less c = omega arith
 
 loop-again : tie.Need-loop-again Inv-loop μ-loop
-loop-again c = 
+loop-again c =
     let at = c .before in
-    let a = at .before .args in
-    (omega arith, at .loop .inv .1, at .loop .inv .2, length-set (at .loop .witness) (at .loop .i) (getD (a .t2) (at .loop .i) 0) ∙ at .loop .inv .3,
-    ap (λ (l : List ℕ). set l (at .loop .i) (getD (a .t2) (at .loop .i) 0)) (at .loop .inv .4) ∙ put-next witness-entries (at .loop .i) (a .t2) (omega (arith, at .loop .inv .2)) (omega (arith, at .loop .inv .2)))
+    let a = at .before .args in (
+      omega arith,
+      at .loop .inv .1,
+      at .loop .inv .2,
+      length-set (at .loop .witness) (at .loop .i) (getD (a .t2) (at .loop .i) 0) ∙ at .loop .inv .3,
+      ap (λ (l : List ℕ). set l (at .loop .i) (getD (a .t2) (at .loop .i) 0)) (at .loop .inv .4) ∙ put-next witness-entries (at .loop .i) (a .t2) (omega (arith, at .loop .inv .2)) (omega (arith, at .loop .inv .2)),
+    )
 
 same-length : tie.Need-same-length Inv-loop μ-loop
 same-length c = c .before .loop .inv .3
