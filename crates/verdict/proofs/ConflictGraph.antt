@@ -1,10 +1,10 @@
 -- The conflict graph: which steps meet, and that the edges of all pairs of steps are the edges of the graph.
-use mathlib.Core.Path.{_≡_, refl, sym, ap, _∙_}
-use mathlib.Core.Bool.{Bool, true, false}
+use mathlib.Core.Path.{_≡_, sym, _∙_}
+use mathlib.Core.Bool.{true, false}
 use mathlib.Core.List.{List}
 use Prim.Native.Nat.{ℕ, suc, _≤_}
 use native.Mathlib.Omega.{arith}
-use Rattle.graph.specs.Tests.{_is_, _and_, _or_, fails, some}
+use Rattle.graph.specs.Tests.{_is_, _or_, some}
 use Rattle.graph.proofs.Truth.{same-test, and→, →and, and-no-left, and-no-right, and-true, →or-left, →or-right, or-no, or-false, →fails, fails→, isnt→, is→, →is, →isnt, some→, →some, →none}
 use Rattle.verdict.specs.Log.{steps, kind, tx, obj, committed}
 use Rattle.verdict.specs.Conflict.{touches, meet, conflict-edge}

@@ -3,11 +3,11 @@ use mathlib.Core.Path.{_≡_, refl, sym, ap, fun-ext, _∙_}
 use mathlib.Core.Bool.{Bool, true, false, not}
 use mathlib.Core.Logic.{_⊎_, inl, inr}
 use mathlib.Core.List.{List}
-use Prim.Native.Nat.{ℕ, suc, _+_, _-_, _*_, _≤_, _<_}
+use Prim.Native.Nat.{ℕ, suc, _+_, _-_, _≤_, _<_}
 use native.Mathlib.Omega.{arith}
 use lib.ListN.{length, getD, set, length-set, length-replicate, getD-replicate}
 use lib.Seq.{getD-set-same, getD-set-other}
-use Rattle.graph.specs.Tests.{_is_, _and_, _or_, fails, some}
+use Rattle.graph.specs.Tests.{_is_, _or_, fails, some}
 use Rattle.graph.specs.Lists.{zeros}
 use Rattle.graph.specs.Matrix.{takes-part, joined, told, Sorts}
 use Rattle.graph.specs.Shows.{Shown, order, cycle, members}

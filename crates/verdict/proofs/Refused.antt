@@ -31,6 +31,22 @@ pub first-no : (n p : ℕ) {b : Bool} (r : Refusal) → b ≡ false → (n at p 
 unfolding _else-try_
 first-no n p r h = ap (λ (z : Refusal). z else-try r) (when-no n p h)
 
+pub tried-refused : {f : Refusal} (s : Refusal) {n p : ℕ} → f ≡ refused n p → (f else-try s) ≡ refused n p
+unfolding _else-try_
+tried-refused s e = ap (λ (z : Refusal). z else-try s) e
+
+pub tried-taken : {f : Refusal} (s : Refusal) → f ≡ taken → (f else-try s) ≡ s
+unfolding _else-try_
+tried-taken s e = ap (λ (z : Refusal). z else-try s) e
+
+-- what is tried after two others is tried after both
+pub try-more : (a b l s : Refusal) → (a else-try b else-try l else-try s) ≡ ((a else-try b else-try l) else-try s)
+unfolding _else-try_
+try-more (refused n p) b l s = refl
+try-more taken (refused n p) l s = refl
+try-more taken taken (refused n p) s = refl
+try-more taken taken taken s = refl
+
 -- a number, 0 standing for none
 pub numbered-some : (n p : ℕ) → (n ≡ 0 → ⊥) → numbered n p ≡ refused n p
 unfolding numbered fails

@@ -2,6 +2,7 @@
 mod cleanness;
 mod conflict_graph;
 mod edges;
+mod exactness;
 mod limits;
 mod refusal;
 mod search;
@@ -11,6 +12,7 @@ mod walk;
 
 pub use cleanness::clean;
 pub use conflict_graph::conflict;
+pub use exactness::exact;
 pub use limits::Log;
 pub use limits::MadeLog;
 pub use limits::MadeObject;

@@ -256,7 +256,7 @@ fn put_order(witness: &mut [u16], order: [u16; Transaction::SEARCHED], n: usize)
 }
 
 // The first order that explains a clean, well-formed log loosely, written into an empty witness, or that there is none.
-fn find_order(log: &[u16], witness: &mut [u16]) -> Answer
+pub fn find_order(log: &[u16], witness: &mut [u16]) -> Answer
     requires { ⌜ (log-refusal (now log) ≡ taken) × (is-clean (now log) ≡ true) × (committed-count (now log) ≤ most-searched) × (now witness ≡ zeros witness-entries) ⌝ }
     ensures { λ r. ⌜ Found (now (log .entry)) r (now (witness .exit)) ⌝ }
 {

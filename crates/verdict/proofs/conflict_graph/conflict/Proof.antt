@@ -1,3 +1,4 @@
+use Rattle.verdict.specs.Refusal.{log-refusal}
 use mathlib.Core.Path.{refl, sym, ap, _∙_}
 use Rattle.graph.specs.Lists.{zeros}
 use Rattle.verdict.specs.Refusal.{work-refusal, witness-refusal}
@@ -27,23 +28,23 @@ clear-requires c κs = search needs
 committed-ones-requires : tie.Need-committed-ones-requires
 unfolding said-refusal work-refusal witness-refusal
 committed-ones-requires c κs = let here = c .before .before .before .before .before .before .before .before .before .before in
-    let a = admitted (here .args .log .now) (here .args .work .now) (here .args .witness .now) (c .before .before .before .before .before .before .admit-witness .ensures) (c .before .before .before .before .enum-told .given .1) in a .well
+    let a = admitted (log-refusal (here .args .log .now)) (here .args .work .now) (here .args .witness .now) (c .before .before .before .before .before .before .admit-witness .ensures) (c .before .before .before .before .enum-told .given .1) in a .well
 
 draw-requires : tie.Need-draw-requires
 unfolding said-refusal work-refusal witness-refusal
 draw-requires c κs = let here = c .before .before .before .before .before .before .before .before .before .before .before .before .before in
-    let a = admitted (here .args .log .now) (here .args .work .now) (here .args .witness .now) (c .before .before .before .before .before .before .before .before .before .admit-witness .ensures) (c .before .before .before .before .before .before .before .enum-told .given .1) in (a .well, c .before .before .committed-ones .ensures, no-edges (c .before .before .before .before .before .clear .ensures ∙ ap zeros (a .work-size)))
+    let a = admitted (log-refusal (here .args .log .now)) (here .args .work .now) (here .args .witness .now) (c .before .before .before .before .before .before .before .before .before .admit-witness .ensures) (c .before .before .before .before .before .before .before .enum-told .given .1) in (a .well, c .before .before .committed-ones .ensures, no-edges (c .before .before .before .before .before .clear .ensures ∙ ap zeros (a .work-size)))
 
 show-requires : tie.Need-show-requires
 unfolding said-refusal work-refusal witness-refusal
 show-requires c κs = let here = c .before .before .before .before .before .before .before .before .before .before .before .before .before .before .before .before .before .before in
-    let a = admitted (here .args .log .now) (here .args .work .now) (here .args .witness .now) (c .before .before .before .before .before .before .before .before .before .before .before .before .before .before .admit-witness .ensures) (c .before .before .before .before .before .before .before .before .before .before .before .before .enum-told .given .1) in (c .before .before .before .before .draw .ensures .size, a .witness-size)
+    let a = admitted (log-refusal (here .args .log .now)) (here .args .work .now) (here .args .witness .now) (c .before .before .before .before .before .before .before .before .before .before .before .before .before .before .admit-witness .ensures) (c .before .before .before .before .before .before .before .before .before .before .before .before .enum-told .given .1) in (c .before .before .before .before .draw .ensures .size, a .witness-size)
 
 returns : tie.Need-returns
 unfolding said-refusal work-refusal witness-refusal
 returns c =
     let here = c .before .before .before .before .before .before .before in
-    turned-away _ _ (not-admitted (here .args .log .now) (here .args .work .now) (here .args .witness .now) (c .before .before .before .admit-witness .ensures) (c .before .admitted .given .1)) refl refl
+    turned-away _ _ (not-admitted (log-refusal (here .args .log .now)) (here .args .work .now) (here .args .witness .now) (c .before .before .before .admit-witness .ensures) (c .before .admitted .given .1)) refl refl
 
 same-length : tie.Need-same-length
 same-length c = search needs
@@ -54,7 +55,7 @@ same-length-2 c = search needs
 returns-2 : tie.Need-returns-2
 unfolding said-refusal work-refusal witness-refusal
 returns-2 c = let here = c .before .before .before .before .before .before .before .before .before .before .before .before .before .before .before .before .before .before .before .before .before .before .before in
-    let a = admitted (here .args .log .now) (here .args .work .now) (here .args .witness .now) (c .before .before .before .before .before .before .before .before .before .before .before .before .before .before .before .before .before .before .before .admit-witness .ensures) (c .before .before .before .before .before .before .before .before .before .before .before .before .before .before .before .before .before .enum-told .given .1) in
+    let a = admitted (log-refusal (here .args .log .now)) (here .args .work .now) (here .args .witness .now) (c .before .before .before .before .before .before .before .before .before .before .before .before .before .before .before .before .before .before .before .admit-witness .ensures) (c .before .before .before .before .before .before .before .before .before .before .before .before .before .before .before .before .before .enum-told .given .1) in
     let s = shown-of (c .before .before .before .before .before .before .before .before .before .before .before .before .committed-ones .ensures) (c .before .before .before .before .before .before .before .before .before .draw .ensures) (conflict-between (here .args .log .now)) (c .before .before .before .before .show .ensures) in
     answered (shown (s .shown)) (sym (a .taken-all)) (conflict {s = s .shown} (s .right)) (s .says) (s .leaves)
 
