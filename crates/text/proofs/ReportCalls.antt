@@ -2,7 +2,7 @@
 use mathlib.Core.Path.{_≡_, refl, sym, ap, _∙_}
 use mathlib.Core.Bool.{true, false}
 use mathlib.Core.List.{List, [], _∷_, _++_}
-use Prim.Native.Nat.{ℕ, _+_, _-_}
+use Prim.Native.Nat.{ℕ, _+_, _-_, _≤_}
 use native.Mathlib.Omega.{arith}
 use lib.ListN.{length, take, drop}
 use lib.Seq.{take-at}
@@ -16,7 +16,8 @@ use Rattle.text.specs.ReadCall.{step-entries}
 use Rattle.text.specs.Put.{put-at, Puts}
 use Rattle.text.specs.Report.{ReportOf}
 use Rattle.text.specs.ReportCall.{report-bytes, sized, buffers-refusal, said-length, leaves-report, ReportCall}
-use Rattle.text.specs.declared.report.ReportAnswer.the-variants as report-answer
+use Rattle.text.specs.declared.reports.ReportAnswer.the-variants as report-answer
+use Rattle.text.proofs.Room.{report-fits}
 
 -- a buffer that is cleared from a place on
 abbrev pub Clears : (from : ℕ) (run run′ : List ℕ) → Type 0
@@ -60,3 +61,9 @@ module _ (text steps work witness out : List ℕ) where
       let c : witness′ ≡ zeros witness-entries = cleared-all witness-entries witness₁ witness′ (g ∙ s .2) l in
       let d : out′ ≡ entries report-bytes w = cleared-behind report-bytes next w out out₁ out′ (i ∙ s .3) p m in
       answered w (sym (when-no 12 0 (→not-fails h))) r (ap report-answer.Length (omega (arith, p .0))) (rw (a, b, c, d) refl)
+
+  -- the length that is answered is within the buffer for a report
+  pub reported-length : {n : ℕ} {steps′ work′ witness′ out′ : List ℕ} → ReportCall text steps work witness out (report-answer.Length n) steps′ work′ witness′ out′ → n ≤ report-bytes
+  unfolding said-length
+  reported-length (turned-away m q g e f) = let z : _≡_ {A = ℕ} 0 1 = cc in absurd (omega arith)
+  reported-length {n} (answered w g r e f) = let i : n ≡ length w = cc in omega (arith, report-fits r)

@@ -12,7 +12,7 @@ use Rattle.text.specs.Reading.{in-form}
 use Rattle.text.specs.ReportLine.{refused-line, answer-line}
 use Rattle.text.specs.Report.{ConflictLine, conflict-line, VersionLine, version-line, ExactLine, over-line, exact-line, first-lines, LogReport, log-refused, judged, ReportOf, text-too-long, text-refused, text-read}
 use Rattle.text.specs.ReportCall.{ReportCall}
-use Rattle.text.specs.declared.report.ReportAnswer.{ReportAnswer}
+use Rattle.text.specs.declared.reports.ReportAnswer.{ReportAnswer}
 use Rattle.text.proofs.Only.{says-one, reading-one}
 
 -- one refusal is printed in one way

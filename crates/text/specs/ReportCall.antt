@@ -11,8 +11,8 @@ use Rattle.verdict.specs.Refusal.{Refusal, _at_when_}
 use Rattle.verdict.specs.Call.{Call}
 use Rattle.text.specs.ReadCall.{step-entries}
 use Rattle.text.specs.Report.{ReportOf}
-use Rattle.text.specs.declared.report.ReportAnswer.{ReportAnswer}
-use Rattle.text.specs.declared.report.ReportAnswer.the-variants as report-answer
+use Rattle.text.specs.declared.reports.ReportAnswer.{ReportAnswer}
+use Rattle.text.specs.declared.reports.ReportAnswer.the-variants as report-answer
 
 -- the buffer for a report has 2,048 bytes: a line of a verdict with a witness has at most 544, and any other at most 64
 abbrev pub report-bytes : ℕ

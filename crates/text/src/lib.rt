@@ -4,10 +4,11 @@ mod decimal;
 mod line;
 mod number;
 mod put;
-mod report;
 mod report_line;
+mod reports;
 
-pub use report::ReportAnswer;
+pub use reports::ReportAnswer;
+pub use reports::report;
 ghost use mathlib.Core.Path.{_≡_};
 ghost use mathlib.Core.List.{_++_};
 ghost use Prim.Native.Nat.{_≤_};

@@ -44,11 +44,11 @@ pub(crate) fn put_numbers(out: &mut [u8], at: usize, list: &[u16]) -> usize
     ensures { λ r. ⌜ Puts (numbers (now (list .entry))) at (now (out .entry)) r (now (out .exit)) ⌝ }
 {
     let mut place = at;
-    let mut i = 0;
-    while i < list.len() {
+    let mut left = list.len();
+    while 0 < left {
         let a = put_byte(out, place, b' ');
-        place = put_decimal(out, a, list[i] as usize);
-        i += 1;
+        place = put_decimal(out, a, list[list.len() - left] as usize);
+        left -= 1;
     }
     place
 }

@@ -19,8 +19,8 @@ use Rattle.text.specs.Heard.{heard-clean, heard-snapshot, line-of}
 use Rattle.text.proofs.Puts.{fits-first, fits-second, fits-third, fits-fourth, four-put, known-fits, known-puts}
 use Rattle.text.proofs.Heards.{clean-heard, snapshot-heard}
 use Rattle.text.proofs.Room.{first-fit}
-use Rattle.text.proofs.report.put_first.Statement.{statement}
-use Rattle.text.proofs.report.put_first.Tie as tie
+use Rattle.text.proofs.reports.put_first.Statement.{statement}
+use Rattle.text.proofs.reports.put_first.Tie as tie
 
 -- the four lines
 module _ (s : tie.Start) where

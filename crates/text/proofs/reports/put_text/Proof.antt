@@ -13,8 +13,8 @@ use Rattle.text.specs.ReportCall.{report-bytes}
 use Rattle.text.specs.declared.ReadAnswer.{ReadAnswer}
 use Rattle.text.proofs.WasRead.{Was, refused-report, was-read}
 use Rattle.text.proofs.Room.{report-fits}
-use Rattle.text.proofs.report.put_text.Statement.{statement}
-use Rattle.text.proofs.report.put_text.Tie as tie
+use Rattle.text.proofs.reports.put_text.Statement.{statement}
+use Rattle.text.proofs.reports.put_text.Tie as tie
 
 -- what reading answered, where it is known
 abbrev Answers : tie.After-read → ReadAnswer → Type 0

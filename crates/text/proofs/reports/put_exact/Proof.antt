@@ -5,8 +5,8 @@ use Rattle.text.specs.Bytes.{bytes}
 use Rattle.text.specs.Report.{ExactLine}
 use Rattle.text.proofs.Heards.{Hears, heard-fits, heard-puts, exact-heard}
 use Rattle.text.proofs.Room.{exact-fits}
-use Rattle.text.proofs.report.put_exact.Statement.{statement}
-use Rattle.text.proofs.report.put_exact.Tie as tie
+use Rattle.text.proofs.reports.put_exact.Statement.{statement}
+use Rattle.text.proofs.reports.put_exact.Tie as tie
 
 hear : (c : tie.After-exact) → Hears (ExactLine (c .before .before .before .before .before .before .before .args .log .now)) (bytes "exact=") (c .exact .result) (c .exact .last .1 .1 .0)
 hear c =

@@ -5,8 +5,8 @@ use Rattle.text.specs.Bytes.{bytes}
 use Rattle.text.specs.Report.{VersionLine}
 use Rattle.text.proofs.Heards.{Hears, heard-fits, heard-puts, version-heard}
 use Rattle.text.proofs.Room.{version-fits}
-use Rattle.text.proofs.report.put_version.Statement.{statement}
-use Rattle.text.proofs.report.put_version.Tie as tie
+use Rattle.text.proofs.reports.put_version.Statement.{statement}
+use Rattle.text.proofs.reports.put_version.Tie as tie
 
 hear : (c : tie.After-version) → Hears (VersionLine (c .before .before .before .before .before .before .before .args .log .now)) (bytes "version=") (c .version .result) (c .version .last .1 .1 .0)
 hear c =

@@ -10,8 +10,8 @@ use Rattle.text.specs.ReportLine.{refused-line}
 use Rattle.text.specs.Report.{log-refused}
 use Rattle.text.specs.ReportCall.{report-bytes}
 use Rattle.text.proofs.Room.{log-report-fits}
-use Rattle.text.proofs.report.put_log.Statement.{statement}
-use Rattle.text.proofs.report.put_log.Tie as tie
+use Rattle.text.proofs.reports.put_log.Statement.{statement}
+use Rattle.text.proofs.reports.put_log.Tie as tie
 
 -- the refusal that the check has found
 found : (c : tie.After-checked) → log-refusal (c .before .before .before .before .before .before .before .args .log .now) ≡ refused (c .checked .given .0 .0) (c .checked .given .0 .1 .0)

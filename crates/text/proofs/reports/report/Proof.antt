@@ -8,8 +8,8 @@ use Rattle.verdict.specs.Limits.{work-bytes, witness-entries}
 use Rattle.text.specs.ReadCall.{step-entries}
 use Rattle.text.specs.ReportCall.{report-bytes}
 use Rattle.text.proofs.ReportCalls.{right-sizes, wrong-sizes, reported}
-use Rattle.text.proofs.report.report.Statement.{statement}
-use Rattle.text.proofs.report.report.Tie as tie
+use Rattle.text.proofs.reports.report.Statement.{statement}
+use Rattle.text.proofs.reports.report.Tie as tie
 
 -- the lent buffers have the right lengths
 lengths : (c : tie.Else1) →

@@ -5,8 +5,8 @@ use Rattle.text.specs.Bytes.{bytes}
 use Rattle.text.specs.Report.{ConflictLine}
 use Rattle.text.proofs.Heards.{Hears, heard-fits, heard-puts, conflict-heard}
 use Rattle.text.proofs.Room.{conflict-fits}
-use Rattle.text.proofs.report.put_conflict.Statement.{statement}
-use Rattle.text.proofs.report.put_conflict.Tie as tie
+use Rattle.text.proofs.reports.put_conflict.Statement.{statement}
+use Rattle.text.proofs.reports.put_conflict.Tie as tie
 
 hear : (c : tie.After-conflict) → Hears (ConflictLine (c .before .before .before .before .before .before .before .args .log .now)) (bytes "conflict=") (c .conflict .result) (c .conflict .last .1 .1 .0)
 hear c =

@@ -4,8 +4,8 @@ use mathlib.Core.Path.{sym}
 use Rattle.graph.specs.Tests.{_is_}
 use Rattle.graph.proofs.Truth.{→and, and-no-left, and-no-right, and-true, →is, →isnt}
 use Rattle.text.specs.ReportCall.{sized}
-use Rattle.text.proofs.report.is_sized.Statement.{statement}
-use Rattle.text.proofs.report.is_sized.Tie as tie
+use Rattle.text.proofs.reports.is_sized.Statement.{statement}
+use Rattle.text.proofs.reports.is_sized.Tie as tie
 
 mul-if1 : tie.Need-mul-if1
 mul-if1 c = search needs

@@ -9,8 +9,8 @@ use Rattle.text.specs.Report.{first-lines, LogReport, judged}
 use Rattle.text.specs.ReportCall.{report-bytes}
 use Rattle.text.proofs.Puts.{four-put}
 use Rattle.text.proofs.Room.{first-fit, log-report-fits}
-use Rattle.text.proofs.report.put_verdicts.Statement.{statement}
-use Rattle.text.proofs.report.put_verdicts.Tie as tie
+use Rattle.text.proofs.reports.put_verdicts.Statement.{statement}
+use Rattle.text.proofs.reports.put_verdicts.Tie as tie
 
 put-first-requires : tie.Need-put-first-requires
 put-first-requires c κs = search needs
