@@ -70,7 +70,7 @@ module _ (n : ℕ) (node : ℕ → Bool) where
     leads-over home (a ∷ []) h = let r = ends a home h in →and (node-there a (r .0) (r .1)) refl
     leads-over home (a ∷ b ∷ c) h = let r = ends a b (and→ h .0) in →and (node-there a (r .0) (r .1)) (leads-over home (b ∷ c) (and→ h .1))
 
-    cycle-over : (c : List ℕ) → is-cycle edge c ≡ true → all (λ t. member t nodes) c ≡ true
+    pub cycle-over : (c : List ℕ) → is-cycle edge c ≡ true → all (λ t. member t nodes) c ≡ true
     unfolding is-cycle
     cycle-over [] h = absurd (false≢true h)
     cycle-over (a ∷ c) h = leads-over a (a ∷ c) (and→ h .1)

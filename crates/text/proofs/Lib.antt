@@ -7,6 +7,12 @@ pub mod Forms
 pub mod Runs
 pub mod Compare
 pub mod Puts
+pub mod Clears
 pub mod Only
 pub mod Calls
+pub mod WasRead
+pub mod Heards
+pub mod Room
+pub mod ReportOnly
+pub mod ReportCalls
 pub mod Samples

@@ -1,13 +1,14 @@
--- Bytes put into a run of bytes: one byte, one byte more, and the last digit of a number.
-use mathlib.Core.Path.{_≡_, refl, sym, ap, _∙_}
-use mathlib.Core.List.{List, [], _∷_, _++_, append-assoc}
+-- Bytes put into a run of bytes: one byte, one byte more, one word after another, and the last digit of a number.
+use mathlib.Core.Path.{_≡_, refl, sym, ap, subst, _∙_}
+use mathlib.Core.List.{List, [], _∷_, _++_, append-nil, append-assoc}
 use Prim.Native.Nat.{ℕ, suc, _+_, _*_, _/_, _%_, _≤_, _<_}
 use native.Mathlib.Omega.{arith}
 use native.Mathlib.Numerals.{add-one}
-use lib.ListN.{length, take, set, length-append}
-use lib.Seq.{length-take-le, drop-cons, set-split, set-at}
+use lib.ListN.{length, getD, take, drop, set, length-append, length-drop, take-append-drop}
+use lib.Seq.{length-take-le, take-all, take-suc, take-at, drop-at, drop-drop, drop-cons, set-split, set-at}
 use Rattle.text.specs.Decimal.{digit, decimal}
-use Rattle.text.specs.Put.{put-at}
+use Rattle.text.specs.Put.{put-at, Fits, Puts}
+use Rattle.text.specs.ReportLine.{numbers}
 use Rattle.text.proofs.Spelling.{decimal-digit, decimal-more}
 
 pub put-one : (l : List ℕ) (at b : ℕ) → at < length l → set l at b ≡ put-at at (b ∷ []) l
@@ -20,6 +21,159 @@ put-more l w at b h =
     let n : length (take at l ++ w) ≡ at + length w = length-append (take at l) w ∙ ap (λ (m : ℕ). m + length w) (length-take-le at l (omega arith)) in
     let m : at + length (w ++ b ∷ []) ≡ suc (at + length w) = omega (arith, length-append w (b ∷ [])) in
     rw (drop-cons l (at + length w) 0 h, set-at (take at l ++ w) _ _ b (at + length w) n, m) (simp append-assoc)
+
+-- nothing put in
+pub puts-nothing : (l : List ℕ) (at : ℕ) → Puts [] at l at l
+unfolding put-at
+puts-nothing l at = let e : at + 0 ≡ at = omega arith in (sym e, rw (e, append-nil) (sym (take-append-drop at l)))
+
+pub puts-byte : (l : List ℕ) (at b : ℕ) → at < length l → Puts (b ∷ []) at l (at + 1) (set l at b)
+puts-byte l at b h = (refl, put-one l at b h)
+
+-- what is put in leaves the length
+put-length : (v l : List ℕ) (at : ℕ) → Fits v at l → length (put-at at v l) ≡ length l
+unfolding put-at
+put-length v l at h =
+    length-append (take at l ++ v) (drop (at + length v) l)
+    ∙ ap (λ (m : ℕ). m + length (drop (at + length v) l)) (length-append (take at l) v ∙ ap (λ (m : ℕ). m + length v) (length-take-le at l (omega arith)))
+    ∙ ap (λ (m : ℕ). at + length v + m) (length-drop (at + length v) l)
+    ∙ omega arith
+
+-- two words, one after another
+module _ (v w l : List ℕ) (at : ℕ) (fits : Fits (v ++ w) at l) where
+  pub first-fits : Fits v at l
+  first-fits = omega (arith, length-append v w)
+
+  module _ {next : ℕ} {l′ : List ℕ} (put : Puts v at l next l′) where
+    pub then-fits : Fits w next l′
+    then-fits =
+        let e : length l′ ≡ length l = ap length (put .1) ∙ put-length v l at first-fits in
+        let f : next ≡ at + length v = put .0 in
+        omega (arith, length-append v w)
+
+    pub both-put : {end : ℕ} {l″ : List ℕ} → Puts w next l′ end l″ → Puts (v ++ w) at l end l″
+    unfolding put-at
+    both-put second =
+        let front = take at l ++ v in
+        let m = at + length v in
+        let n : length front ≡ m = length-append (take at l) v ∙ ap (λ (k : ℕ). k + length v) (length-take-le at l (omega (arith, first-fits))) in
+        let p : at + length (v ++ w) ≡ m + length w = omega (arith, length-append v w) in
+        let q : take m (front ++ drop m l) ≡ front = take-at front (drop m l) m n in
+        let r : drop (m + length w) (front ++ drop m l) ≡ drop (m + length w) l =
+        sym (drop-drop (length w) m (front ++ drop m l)) ∙ ap (drop (length w)) (drop-at front (drop m l) m n) ∙ drop-drop (length w) m l
+        in
+        (second .0 ∙ ap (λ (k : ℕ). k + length w) (put .0) ∙ sym p, second .1 ∙ rw (put .0, put .1, q, r, p) (simp append-assoc))
+
+-- four words
+module _ (a b c d l : List ℕ) (at : ℕ) (fits : Fits (a ++ b ++ c ++ d) at l) where
+  three-fit : Fits (a ++ b ++ c) at l
+  three-fit = first-fits (a ++ b ++ c) d l at fits
+
+  two-fit : Fits (a ++ b) at l
+  two-fit = first-fits (a ++ b) c l at three-fit
+
+  pub fits-first : Fits a at l
+  fits-first = first-fits a b l at two-fit
+
+  module _ {next : ℕ} {l′ : List ℕ} (put : Puts a at l next l′) where
+    pub fits-second : Fits b next l′
+    fits-second = then-fits a b l at two-fit put
+
+    module _ {next₂ : ℕ} {l₂ : List ℕ} (put₂ : Puts b next l′ next₂ l₂) where
+      two-put : Puts (a ++ b) at l next₂ l₂
+      two-put = both-put a b l at two-fit put put₂
+
+      pub fits-third : Fits c next₂ l₂
+      fits-third = then-fits (a ++ b) c l at three-fit two-put
+
+      module _ {next₃ : ℕ} {l₃ : List ℕ} (put₃ : Puts c next₂ l₂ next₃ l₃) where
+        three-put : Puts (a ++ b ++ c) at l next₃ l₃
+        three-put = both-put (a ++ b) c l at three-fit two-put put₃
+
+        pub fits-fourth : Fits d next₃ l₃
+        fits-fourth = then-fits (a ++ b ++ c) d l at fits three-put
+
+        pub four-put : {end : ℕ} {l₄ : List ℕ} → Puts d next₃ l₃ end l₄ → Puts (a ++ b ++ c ++ d) at l end l₄
+        four-put = both-put (a ++ b ++ c) d l at fits three-put
+
+-- an answer that is known by its case
+module _ {A : Type 0} (line : A → List ℕ) {a b : A} (known : a ≡ b) (l : List ℕ) (at : ℕ) where
+  pub known-fits : Fits (line a) at l → Fits (line b) at l
+  known-fits = subst (λ (z : A). Fits (line z) at l) known
+
+  pub known-puts : {next : ℕ} {l′ : List ℕ} → Puts (line b) at l next l′ → Puts (line a) at l next l′
+  known-puts {next} {l′} = subst (λ (z : A). Puts (line z) at l next l′) (sym known)
+
+-- a word, byte by byte
+module _ (l word : List ℕ) (at : ℕ) (fits : Fits word at l) where
+  pub puts-none : l ≡ put-at at (take 0 word) l
+  puts-none = puts-nothing l at .1
+
+  pub puts-more : (l′ : List ℕ) (i : ℕ) → i < length word → l′ ≡ put-at at (take i word) l → set l′ (at + i) (getD word i 0) ≡ put-at at (take (i + 1) word) l
+  puts-more l′ i h e =
+      let b = getD word i 0 in
+      let n : length (take i word) ≡ i = length-take-le i word (omega arith) in
+      ap (λ (u : List ℕ). set u (at + i) b) e
+      ∙ ap (λ (m : ℕ). set (put-at at (take i word) l) (at + m) b) (sym n)
+      ∙ put-more l (take i word) at b (omega arith)
+      ∙ ap (λ (u : List ℕ). put-at at u l) (sym (ap (λ (m : ℕ). take m word) (add-one i) ∙ take-suc word i 0 h))
+
+  pub puts-all : (l′ : List ℕ) (i : ℕ) → length word ≤ i → i ≤ length word → l′ ≡ put-at at (take i word) l → Puts word at l (at + i) l′
+  puts-all l′ i h k e = (omega arith, e ∙ ap (λ (u : List ℕ). put-at at u l) (take-all i word h))
+
+-- numbers, a blank before each
+numbers-append : (v w : List ℕ) → numbers (v ++ w) ≡ numbers v ++ numbers w
+unfolding numbers
+numbers-append [] w = refl
+numbers-append (n ∷ v) w = rw (numbers-append v w) (simp append-assoc)
+
+module _ (list l : List ℕ) (at : ℕ) (fits : Fits (numbers list) at l) (i : ℕ) (h : i < length list) where
+  before-it : List ℕ
+  before-it = numbers (take i list)
+
+  its-digits : List ℕ
+  its-digits = decimal (getD list i 0)
+
+  -- one number more
+  one-more : before-it ++ 32 ∷ [] ++ its-digits ≡ numbers (take (i + 1) list)
+  unfolding numbers before-it its-digits
+  one-more =
+      sym (ap (λ (m : ℕ). numbers (take m list)) (add-one i)
+      ∙ ap numbers (take-suc list i 0 h)
+      ∙ numbers-append (take i list) (getD list i 0 ∷ [])
+      ∙ simp (append-nil, append-assoc))
+
+  -- .. has room where all have
+  more-fits : Fits (before-it ++ 32 ∷ [] ++ its-digits) at l
+  more-fits =
+      let e : length (numbers list) ≡ length (numbers (take (i + 1) list)) + length (numbers (drop (i + 1) list)) =
+      ap (λ (u : List ℕ). length (numbers u)) (sym (take-append-drop (i + 1) list))
+      ∙ ap length (numbers-append (take (i + 1) list) (drop (i + 1) list))
+      ∙ length-append (numbers (take (i + 1) list)) (numbers (drop (i + 1) list))
+      in
+      let f : length (before-it ++ 32 ∷ [] ++ its-digits) ≡ length (numbers (take (i + 1) list)) = ap length one-more in
+      omega arith
+
+  blank-fits-too : Fits (before-it ++ 32 ∷ []) at l
+  blank-fits-too = first-fits (before-it ++ 32 ∷ []) its-digits l at more-fits
+
+  module _ {next : ℕ} {l′ : List ℕ} (put : Puts (numbers (take i list)) at l next l′) where
+    pub blank-fits : Fits (32 ∷ []) next l′
+    unfolding before-it
+    blank-fits = then-fits before-it (32 ∷ []) l at blank-fits-too put
+
+    module _ {next′ : ℕ} {l″ : List ℕ} (blank-put : Puts (32 ∷ []) next l′ next′ l″) where
+      both : Puts (before-it ++ 32 ∷ []) at l next′ l″
+      unfolding before-it
+      both = both-put before-it (32 ∷ []) l at blank-fits-too put blank-put
+
+      pub number-fits : Fits (decimal (getD list i 0)) next′ l″
+      unfolding its-digits
+      number-fits = then-fits (before-it ++ 32 ∷ []) its-digits l at more-fits both
+
+      pub number-put : {end : ℕ} {l‴ : List ℕ} → Puts (decimal (getD list i 0)) next′ l″ end l‴ → Puts (numbers (take (i + 1) list)) at l end l‴
+      unfolding its-digits
+      number-put {end} {l‴} p = subst (λ (w : List ℕ). Puts w at l end l‴) one-more (both-put (before-it ++ 32 ∷ []) its-digits l at more-fits both p)
 
 -- a number of one digit
 module _ (n : ℕ) (h : n < 10) where

@@ -1,4 +1,4 @@
--- Document 01's text form, and what reading a text answers and leaves. `Finds` holds what the reader's own functions promise each other.
+-- Document 01's text form and report, and what the calls answer and leave. `Finds`, `Put` and `Heard` hold what the functions promise each other.
 pub mod Bytes
 pub mod Decimal
 pub mod Line
@@ -7,3 +7,7 @@ pub mod Reading
 pub mod ReadCall
 pub mod Finds
 pub mod Put
+pub mod ReportLine
+pub mod Report
+pub mod ReportCall
+pub mod Heard

@@ -1,8 +1,21 @@
 -- Numbers put into a lent run of numbers, as bytes into a text or a step into the step buffer.
+use mathlib.Core.Path.{_≡_}
 use mathlib.Core.List.{List, _++_}
-use Prim.Native.Nat.{ℕ, _+_}
+use Prim.Native.Nat.{ℕ, _+_, _≤_}
 use lib.ListN.{length, take, drop}
 
 -- w put in at this place: what stands before and behind it is as it was
 unfoldable pub put-at : ℕ → List ℕ → List ℕ → List ℕ
 put-at at w run = take at run ++ w ++ drop (at + length w) run
+
+-- w has room in the run at this place
+abbrev pub Fits : (w : List ℕ) (at : ℕ) (run : List ℕ) → Type 0
+Fits w at run = at + length w ≤ length run
+
+-- w has been put in at this place, and `next` is the place behind it
+abbrev pub Puts : (w : List ℕ) (at : ℕ) (run : List ℕ) (next : ℕ) (run′ : List ℕ) → Type 0
+Puts w at run next run′ = (next ≡ at + length w) × (run′ ≡ put-at at w run)
+
+-- a line that passes has been put in, which has at most so many bytes
+abbrev pub PutsLine : (most : ℕ) (passes : List ℕ → Type 0) (at : ℕ) (run : List ℕ) (next : ℕ) (run′ : List ℕ) → Type 0
+PutsLine most passes at run next run′ = (w : List ℕ) × passes w × (length w ≤ most) × Puts w at run next run′

@@ -1,17 +1,23 @@
-// The text reader, and numbers in decimal.
+// The text reader and the report.
+mod clear;
 mod decimal;
 mod line;
 mod number;
+mod put;
+mod report_line;
+mod reports;
 
+pub use reports::ReportAnswer;
+pub use reports::report;
 ghost use mathlib.Core.Path.{_≡_};
 ghost use mathlib.Core.List.{_++_};
-ghost use Prim.Native.Nat.{_-_, _≤_};
-ghost use lib.ListN.{length, take, drop};
-ghost use Rattle.graph.specs.Lists.{zeros};
+ghost use Prim.Native.Nat.{_≤_};
+ghost use lib.ListN.{length, drop};
 ghost use Rattle.verdict.specs.Limits.{most-steps};
 ghost use Rattle.text.specs.Line.{header};
 ghost use Rattle.text.specs.Reading.{Reading};
 ghost use Rattle.text.specs.ReadCall.{step-entries, ReadsCall, ReadCall};
+use crate::clear::clear_from;
 use crate::line::Lines;
 use crate::line::pass;
 use crate::number::Number;
@@ -25,6 +31,9 @@ pub struct Text {
 
 impl Text {
     pub const LIMIT: usize = 33803;
+
+    // How many bytes the buffer for the report of a text has.
+    pub const REPORT: usize = 2048;
 }
 
 // What reading a text answers: a refusal with its number and its place, or how many steps were read.
@@ -77,17 +86,5 @@ fn read_steps(text: &[u8], at: usize, n: usize, steps: &mut [u16]) -> ReadAnswer
             clear_from(steps, 4 * n);
             ReadAnswer::Steps(n)
         }
-    }
-}
-
-// Sets every entry from this one on to 0.
-fn clear_from(steps: &mut [u16], from: usize)
-    requires { ⌜ from ≤ length (now steps) ⌝ }
-    ensures { λ _. ⌜ now (steps .exit) ≡ take from (now (steps .entry)) ++ zeros (length (now (steps .entry)) - from) ⌝ }
-{
-    let mut i = from;
-    while i < steps.len() {
-        steps[i] = 0;
-        i += 1;
     }
 }

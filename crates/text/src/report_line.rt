@@ -1,0 +1,117 @@
+// The lines of a report, each from the answer that it tells.
+ghost use mathlib.Core.Path.{_≡_};
+ghost use mathlib.Core.List.{_++_};
+ghost use Prim.Native.Nat.{_≤_};
+ghost use lib.ListN.{length};
+ghost use Rattle.text.specs.Bytes.{bytes};
+ghost use Rattle.text.specs.Decimal.{decimal};
+ghost use Rattle.text.specs.Put.{Fits, Puts};
+ghost use Rattle.text.specs.ReportLine.{refused-line, clean-line, snapshot-line, numbers, fault-step, value, answer-line};
+ghost use Rattle.text.specs.Heard.{heard-fault, heard-clean, heard-snapshot, heard, heard-entries, line-of};
+use crate::decimal::put_decimal;
+use crate::put::put_byte;
+use crate::put::put_item;
+use crate::put::put_numbers;
+use crate::put::put_word;
+use verdict::Answer;
+use verdict::CleanAnswer;
+use verdict::Fault;
+use verdict::SnapshotAnswer;
+
+// Puts the line of a refusal.
+pub(crate) fn put_refused(out: &mut [u8], number: u16, place: usize) -> usize
+    requires { ⌜ Fits (refused-line number place) 0 (now out) ⌝ }
+    ensures { λ r. ⌜ Puts (refused-line number place) 0 (now (out .entry)) r (now (out .exit)) ⌝ }
+{
+    let a = put_item(out, 0, b"refused=", number as usize, b' ');
+    put_item(out, a, b"at=", place, b'\n')
+}
+
+// Puts the line of the clean verdict.
+pub(crate) fn put_clean(out: &mut [u8], at: usize, answer: CleanAnswer) -> usize
+    requires { ⌜ Fits (line-of clean-line (heard-clean answer)) at (now out) ⌝ }
+    ensures { λ r. ⌜ Puts (line-of clean-line (heard-clean answer)) at (now (out .entry)) r (now (out .exit)) ⌝ }
+{
+    match answer {
+        CleanAnswer::Refused(_, _) => at,
+        CleanAnswer::Yes => put_word(out, at, b"clean=yes\n"),
+        CleanAnswer::Unclean(fault) => match fault {
+            Fault::Aborted(k) => put_item(out, at, b"clean=aborted at ", k, b'\n'),
+            Fault::Unfinal(k) => put_item(out, at, b"clean=unfinal at ", k, b'\n'),
+        },
+    }
+}
+
+// Puts the line of the snapshot verdict.
+pub(crate) fn put_snapshot(out: &mut [u8], at: usize, answer: SnapshotAnswer) -> usize
+    requires { ⌜ Fits (line-of snapshot-line (heard-snapshot answer)) at (now out) ⌝ }
+    ensures { λ r. ⌜ Puts (line-of snapshot-line (heard-snapshot answer)) at (now (out .entry)) r (now (out .exit)) ⌝ }
+{
+    match answer {
+        SnapshotAnswer::Refused(_, _) => at,
+        SnapshotAnswer::Yes => put_word(out, at, b"snapshot=yes\n"),
+        SnapshotAnswer::Read(k) => put_item(out, at, b"snapshot=read at ", k, b'\n'),
+        SnapshotAnswer::Write(k, t) => {
+            let a = put_item(out, at, b"snapshot=write at ", k, b' ');
+            put_item(out, a, b"with ", t as usize, b'\n')
+        }
+    }
+}
+
+// Puts a word, and behind it the members of an order or a cycle.
+fn put_members(out: &mut [u8], at: usize, word: &[u8], members: &[u16]) -> usize
+    requires { ⌜ Fits (now word ++ numbers (now members)) at (now out) ⌝ }
+    ensures { λ r. ⌜ Puts (now (word .entry) ++ numbers (now (members .entry))) at (now (out .entry)) r (now (out .exit)) ⌝ }
+{
+    let a = put_word(out, at, word);
+    put_numbers(out, a, members)
+}
+
+// The step of a fault.
+fn step_of(fault: Fault) -> usize
+    ensures { λ r. ⌜ r ≡ fault-step (heard-fault fault) ⌝ }
+{
+    match fault {
+        Fault::Aborted(k) => k,
+        Fault::Unfinal(k) => k,
+    }
+}
+
+// Puts an unclean answer, which tells the step of its fault.
+fn put_unclean(out: &mut [u8], at: usize, fault: Fault) -> usize
+    requires { ⌜ Fits (bytes "unclean at " ++ decimal (fault-step (heard-fault fault))) at (now out) ⌝ }
+    ensures { λ r. ⌜ Puts (bytes "unclean at " ++ decimal (fault-step (heard-fault fault))) at (now (out .entry)) r (now (out .exit)) ⌝ }
+{
+    let a = put_word(out, at, b"unclean at ");
+    put_decimal(out, a, step_of(fault))
+}
+
+// Puts what stands behind the key of a verdict with a witness.
+fn put_value(out: &mut [u8], at: usize, answer: Answer, witness: &[u16]) -> usize
+    requires { ⌜ (heard-entries answer ≤ length (now witness)) × Fits (value (heard (now witness) answer)) at (now out) ⌝ }
+    ensures { λ r. ⌜ Puts (value (heard (now (witness .entry)) answer)) at (now (out .entry)) r (now (out .exit)) ⌝ }
+{
+    match answer {
+        Answer::Refused(_, _) => put_word(out, at, b"over"),
+        Answer::Order(n) => put_members(out, at, b"order", &witness[..n]),
+        Answer::Cycle(n) => put_members(out, at, b"cycle", &witness[..n]),
+        Answer::Nothing => put_word(out, at, b"none"),
+        Answer::Unclean(fault) => put_unclean(out, at, fault),
+    }
+}
+
+// Puts the line of a verdict with a witness.
+pub(crate) fn put_answer(
+    out: &mut [u8],
+    at: usize,
+    key: &[u8],
+    answer: Answer,
+    witness: &[u16],
+) -> usize
+    requires { ⌜ (heard-entries answer ≤ length (now witness)) × Fits (answer-line (now key) (heard (now witness) answer)) at (now out) ⌝ }
+    ensures { λ r. ⌜ Puts (answer-line (now (key .entry)) (heard (now (witness .entry)) answer)) at (now (out .entry)) r (now (out .exit)) ⌝ }
+{
+    let a = put_word(out, at, key);
+    let b = put_value(out, a, answer, witness);
+    put_byte(out, b, b'\n')
+}
