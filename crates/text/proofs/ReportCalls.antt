@@ -1,7 +1,7 @@
 -- What the parts of `report` answer and leave, put together to its statement.
 use mathlib.Core.Path.{_≡_, refl, sym, ap, _∙_}
 use mathlib.Core.Bool.{true, false}
-use mathlib.Core.List.{List, [], _∷_, _++_}
+use mathlib.Core.List.{List, _++_}
 use Prim.Native.Nat.{ℕ, _+_, _-_, _≤_}
 use native.Mathlib.Omega.{arith}
 use lib.ListN.{length, take, drop}
@@ -9,7 +9,6 @@ use lib.Seq.{take-at}
 use Rattle.graph.specs.Lists.{zeros, entries}
 use Rattle.graph.proofs.Truth.{and→, is→, →fails, →not-fails}
 use Rattle.verdict.specs.Limits.{witness-entries, work-bytes}
-use Rattle.verdict.specs.Refusal.{taken, refused}
 use Rattle.verdict.specs.Call.{turned-away, answered}
 use Rattle.verdict.proofs.Refused.{when-yes, when-no}
 use Rattle.text.specs.ReadCall.{step-entries}

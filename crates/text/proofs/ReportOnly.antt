@@ -1,7 +1,7 @@
 -- A text has one report, and `report` one result.
 use mathlib.Core.Path.{_≡_, refl, sym, ap, subst, _∙_}
-use mathlib.Core.List.{List, [], _∷_, _++_}
-use mathlib.Core.Option.{none, some as just}
+use mathlib.Core.List.{List, [], _∷_}
+use mathlib.Core.Option.{some as just}
 use Prim.Native.Nat.{ℕ}
 use native.Mathlib.Omega.{arith}
 use Rattle.verdict.specs.Refusal.{Refusal, taken, refused}
@@ -10,7 +10,7 @@ use Rattle.verdict.proofs.Only.{conflict-one, version-one, exact-one, call-one}
 use Rattle.text.specs.Bytes.{bytes}
 use Rattle.text.specs.Reading.{in-form}
 use Rattle.text.specs.ReportLine.{refused-line, answer-line}
-use Rattle.text.specs.Report.{ConflictLine, conflict-line, VersionLine, version-line, ExactLine, over-line, exact-line, first-lines, LogReport, log-refused, judged, ReportOf, text-too-long, text-refused, text-read}
+use Rattle.text.specs.Report.{ConflictLine, conflict-line, VersionLine, version-line, ExactLine, over-line, exact-line, LogReport, log-refused, judged, ReportOf, text-too-long, text-refused, text-read}
 use Rattle.text.specs.ReportCall.{ReportCall}
 use Rattle.text.specs.declared.reports.ReportAnswer.{ReportAnswer}
 use Rattle.text.proofs.Only.{says-one, reading-one}

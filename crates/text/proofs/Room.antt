@@ -1,5 +1,5 @@
 -- How long the lines of a report are: every report has room in its buffer.
-use mathlib.Core.Path.{_≡_, refl, sym, ap, subst, _∙_}
+use mathlib.Core.Path.{_≡_, refl, sym, ap, _∙_}
 use mathlib.Core.Bool.{Bool, true, false}
 use mathlib.Core.List.{List, [], _∷_, _++_}
 use mathlib.Core.Logic.{_⊎_, inl, inr, ⊎-elim}
@@ -7,19 +7,19 @@ use mathlib.Core.Option.{Option, none, some as just}
 use Prim.Native.Nat.{ℕ, zero, suc, _+_, _*_, _/_, _≤_, _<_}
 use native.Mathlib.Omega.{arith}
 use lib.ListN.{length, length-append}
-use Rattle.graph.specs.Tests.{_below_, _and_, if_then_else_, some, count, lowest}
+use Rattle.graph.specs.Tests.{_below_, if_then_else_, some, count, lowest}
 use Rattle.graph.specs.Lists.{member, all}
 use Rattle.graph.specs.Order.{once-each, is-order}
 use Rattle.graph.specs.Cycle.{is-cycle}
 use Rattle.graph.specs.Shows.{Shown, order, cycle, Shows, shows-order, shows-cycle}
-use Rattle.graph.proofs.Truth.{decide, not-both, to-false, and→, below→, →below, not-below→, if-true, if-false, lowest-bound, count-above}
+use Rattle.graph.proofs.Truth.{decide, to-false, and→, below→, not-below→, if-true, if-false, lowest-bound, count-above}
 use Rattle.graph.proofs.Places.{member-head, member-tail, all→}
 use Rattle.graph.proofs.Judge.{nodes, nodes-length, there-node, once-over, once-length, cycle-over, cycle-length}
 use Rattle.verdict.specs.Limits.{transactions, most-steps}
 use Rattle.verdict.specs.Log.{steps, committed, committed-count, aborted, src}
 use Rattle.verdict.specs.Refusal.{Refusal, taken, refused, _at_when_, _else-try_, tried, range-refusal, life-refusal, source-refusal, step-refusal, open-refusal, log-refusal}
 use Rattle.verdict.specs.Clean.{Fault, aborted-at, unfinal-at, Cleanness, clean, unclean, is-clean, faulty-read, fault-at, cleanness}
-use Rattle.verdict.specs.Snapshot.{Snapshot, snapshot, read-at, write-at-with, clash, wrong-read, wrong-step, snapshot-fault, snapshot-verdict}
+use Rattle.verdict.specs.Snapshot.{snapshot, read-at, write-at-with, clash, wrong-read, wrong-step, snapshot-fault, snapshot-verdict}
 use Rattle.verdict.specs.Answer.{Answer, shown, unclean-by}
 use Rattle.verdict.specs.Conflict.{conflict-edge, Conflict, conflict}
 use Rattle.verdict.specs.Version.{version-edge, Version, version, version-unclean}
@@ -32,7 +32,7 @@ use Rattle.verdict.proofs.Judge.{cleanness-clean, loosely-serial, conflict-ends
 use Rattle.text.specs.Bytes.{bytes, blank, line-end}
 use Rattle.text.specs.Decimal.{decimal}
 use Rattle.text.specs.Line.{item, header}
-use Rattle.text.specs.Reading.{Reading, no-header, too-many, bad-line, extra, in-form}
+use Rattle.text.specs.Reading.{Reading, no-header, too-many, bad-line, extra}
 use Rattle.text.specs.ReportLine.{refused-line, committed-line, clean-line, snapshot-line, numbers, fault-step, value, answer-line}
 use Rattle.text.specs.Report.{ConflictLine, conflict-line, VersionLine, version-line, ExactLine, over-line, exact-line, first-lines, LogReport, log-refused, judged, ReportOf, text-too-long, text-refused, text-read}
 use Rattle.text.specs.ReportCall.{report-bytes, most-long, most-short}

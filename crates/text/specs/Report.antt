@@ -1,7 +1,7 @@
 -- The report of a text: a line for each verdict, or the refusal alone.
 use mathlib.Core.Path.{_≡_}
 use mathlib.Core.List.{List, _++_}
-use mathlib.Core.Option.{Option, none, some as just}
+use mathlib.Core.Option.{none, some as just}
 use Prim.Native.Nat.{ℕ, _≤_, _<_}
 use lib.ListN.{length}
 use Rattle.verdict.specs.Limits.{transactions}

@@ -1,11 +1,10 @@
 -- `put_clean` meets its contract: each case has its line.
 use borrow.Author.Needs.{needs}
-use mathlib.Core.Path.{_≡_, ap, _∙_}
+use mathlib.Core.Path.{ap, _∙_}
 use mathlib.Core.List.{List}
 use Prim.Native.Nat.{ℕ}
 use Rattle.verdict.specs.declared.CleanAnswer.{CleanAnswer}
 use Rattle.verdict.specs.declared.CleanAnswer.the-variants.{Unclean}
-use Rattle.verdict.specs.declared.Fault.the-variants.{Aborted, Unfinal}
 use Rattle.text.specs.Bytes.{bytes}
 use Rattle.text.specs.ReportLine.{clean-line}
 use Rattle.text.specs.Heard.{heard-fault, heard-clean, line-of}

@@ -6,7 +6,7 @@ use mathlib.Core.List.{List}
 use mathlib.Core.Option.{some as just}
 use Prim.Native.Nat.{ℕ}
 use lib.ListN.{length}
-use Rattle.verdict.specs.Limits.{transactions, work-bytes}
+use Rattle.verdict.specs.Limits.{transactions}
 use Rattle.verdict.specs.Log.{steps, committed-count}
 use Rattle.verdict.specs.Clean.{cleanness}
 use Rattle.verdict.specs.Snapshot.{snapshot-verdict}

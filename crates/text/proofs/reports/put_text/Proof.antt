@@ -9,7 +9,6 @@ use lib.Seq.{length-take-le}
 use Rattle.text.specs.ReadCall.{ReadCall}
 use Rattle.text.specs.ReportLine.{refused-line}
 use Rattle.text.specs.Report.{LogReport, ReportOf, text-read}
-use Rattle.text.specs.ReportCall.{report-bytes}
 use Rattle.text.specs.declared.ReadAnswer.{ReadAnswer}
 use Rattle.text.proofs.WasRead.{Was, refused-report, was-read}
 use Rattle.text.proofs.Room.{report-fits}
