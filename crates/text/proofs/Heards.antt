@@ -24,10 +24,9 @@ use Rattle.verdict.specs.declared.Answer.the-variants as the-answer
 use Rattle.verdict.proofs.Refused.{when-no}
 use Rattle.verdict.proofs.WellFormed.{refused≢taken, else-try→}
 use Rattle.text.specs.Bytes.{bytes}
-use Rattle.text.specs.Put.{Fits, Puts, PutsLine}
+use Rattle.text.specs.Put.{Fits, Puts, PutsLine, most-long}
 use Rattle.text.specs.ReportLine.{answer-line}
 use Rattle.text.specs.Report.{ConflictLine, conflict-line, VersionLine, version-line, ExactLine, over-line, exact-line}
-use Rattle.text.specs.ReportCall.{most-long}
 use Rattle.text.specs.Heard.{heard-fault, heard-clean, heard-snapshot, heard, heard-entries}
 use Rattle.text.proofs.Puts.{known-fits, known-puts}
 

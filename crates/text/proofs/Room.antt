@@ -35,7 +35,8 @@ use Rattle.text.specs.Line.{item, header}
 use Rattle.text.specs.Reading.{Reading, no-header, too-many, bad-line, extra}
 use Rattle.text.specs.ReportLine.{refused-line, committed-line, clean-line, snapshot-line, numbers, fault-step, value, answer-line}
 use Rattle.text.specs.Report.{ConflictLine, conflict-line, VersionLine, version-line, ExactLine, over-line, exact-line, first-lines, LogReport, log-refused, judged, ReportOf, text-too-long, text-refused, text-read}
-use Rattle.text.specs.ReportCall.{report-bytes, most-long, most-short}
+use Rattle.text.specs.Put.{most-long, most-short}
+use Rattle.text.specs.ReportCall.{report-bytes}
 use Rattle.text.proofs.Puts.{one-length, last-length}
 
 -- DIGITS

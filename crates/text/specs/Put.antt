@@ -1,4 +1,4 @@
--- Numbers put into a lent run of numbers, as bytes into a text or a step into the step buffer.
+-- Numbers put into a lent run of numbers, as bytes into a text or a step into the step buffer. Only private contracts cite these.
 use mathlib.Core.Path.{_≡_}
 use mathlib.Core.List.{List, _++_}
 use Prim.Native.Nat.{ℕ, _+_, _≤_}
@@ -19,3 +19,10 @@ Puts w at run next run′ = (next ≡ at + length w) × (run′ ≡ put-at at w 
 -- a line that passes has been put in, which has at most so many bytes
 abbrev pub PutsLine : (most : ℕ) (passes : List ℕ → Type 0) (at : ℕ) (run : List ℕ) (next : ℕ) (run′ : List ℕ) → Type 0
 PutsLine most passes at run next run′ = (w : List ℕ) × passes w × (length w ≤ most) × Puts w at run next run′
+
+-- how many bytes a line of a report may take: that of a verdict with a witness, and any other
+abbrev pub most-long : ℕ
+most-long = 544
+
+abbrev pub most-short : ℕ
+most-short = 64

@@ -14,15 +14,9 @@ use Rattle.text.specs.Report.{ReportOf}
 use Rattle.text.specs.declared.reports.ReportAnswer.{ReportAnswer}
 use Rattle.text.specs.declared.reports.ReportAnswer.the-variants as report-answer
 
--- the buffer for a report has 2,048 bytes: a line of a verdict with a witness has at most 544, and any other at most 64
+-- the buffer for a report has 2,048 bytes, and every report fits
 abbrev pub report-bytes : ℕ
 report-bytes = 2048
-
-abbrev pub most-long : ℕ
-most-long = 544
-
-abbrev pub most-short : ℕ
-most-short = 64
 
 -- how many entries the lent buffers have to have
 unfoldable pub sized : (steps work witness out : ℕ) → Bool
