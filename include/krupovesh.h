@@ -1,0 +1,92 @@
+/* The C face of Krupovesh: the verdicts over a log's numbers, the text reader and the report.
+ *
+ * Each buffer is a pointer, which is never null, and a length in entries. Any length and any contents may be handed in.
+ * No two buffers of a call may overlap.
+ * A log has four numbers for each step: kind, transaction, object, source.
+ *
+ * Each function answers one number. Its low 16 bits are the kind of answer, the next 16 its first value, the next 16 its second:
+ *
+ *     kind                    first value              second value
+ *     KRUPOVESH_REFUSED       number of the refusal    its place
+ *     KRUPOVESH_ORDER         length of the order      0
+ *     KRUPOVESH_CYCLE         length of the cycle      0
+ *     KRUPOVESH_NONE          0                        0
+ *     KRUPOVESH_ABORTED       step of the read         0
+ *     KRUPOVESH_UNFINAL       step of the read         0
+ *     KRUPOVESH_YES           0                        0
+ *     KRUPOVESH_READ_AT       step of the read         0
+ *     KRUPOVESH_WRITE_AT      step of the write        the partner
+ *     KRUPOVESH_ACCEPTED      steps read, or bytes     0
+ *                             of the report
+ *
+ * After a refusal every lent entry is as it was. After any other answer the work area is all 0, and a witness buffer holds the order
+ * or the cycle, if there is one, and then zeros. */
+#ifndef KRUPOVESH_H
+#define KRUPOVESH_H
+
+#include <stddef.h>
+#include <stdint.h>
+
+#ifdef __cplusplus
+extern "C" {
+#endif
+
+/* How many entries each lent buffer has to have. */
+#define KRUPOVESH_WORK 16384
+#define KRUPOVESH_WITNESS 128
+#define KRUPOVESH_STEPS 4096
+#define KRUPOVESH_REPORT 2048
+
+/* The kinds of answer. */
+#define KRUPOVESH_REFUSED 0
+#define KRUPOVESH_ORDER 1
+#define KRUPOVESH_CYCLE 2
+#define KRUPOVESH_NONE 3
+#define KRUPOVESH_ABORTED 4
+#define KRUPOVESH_UNFINAL 5
+#define KRUPOVESH_YES 7
+#define KRUPOVESH_READ_AT 8
+#define KRUPOVESH_WRITE_AT 9
+#define KRUPOVESH_ACCEPTED 10
+
+/* The parts of an answer. */
+#define KRUPOVESH_KIND(answer) ((uint16_t)(answer))
+#define KRUPOVESH_FIRST(answer) ((uint16_t)((answer) >> 16))
+#define KRUPOVESH_SECOND(answer) ((uint16_t)((answer) >> 32))
+
+/* Refused, yes, aborted, unfinal. */
+uint64_t krupovesh_clean(const uint16_t *log, size_t log_length, uint8_t *work, size_t work_length);
+
+/* Refused, yes, read at, write at. */
+uint64_t krupovesh_snapshot(const uint16_t *log, size_t log_length, uint8_t *work, size_t work_length);
+
+/* Refused, order, cycle. */
+uint64_t krupovesh_conflict(const uint16_t *log, size_t log_length, uint8_t *work, size_t work_length,
+                            uint16_t *witness, size_t witness_length);
+
+/* Refused, order, cycle, aborted, unfinal. */
+uint64_t krupovesh_version(const uint16_t *log, size_t log_length, uint8_t *work, size_t work_length,
+                           uint16_t *witness, size_t witness_length);
+
+/* Refused, order, none, aborted, unfinal. */
+uint64_t krupovesh_exact(const uint16_t *log, size_t log_length, uint8_t *work, size_t work_length,
+                         uint16_t *witness, size_t witness_length);
+
+/* After the order handed in, which is 128 entries: its members and then zeros. Refused, order, none. */
+uint64_t krupovesh_next(const uint16_t *log, size_t log_length, const uint16_t *order, size_t order_length,
+                        uint8_t *work, size_t work_length, uint16_t *witness, size_t witness_length);
+
+/* Reads a text's steps into the step buffer, zeros behind them. Refused, or accepted with the number of steps. */
+uint64_t krupovesh_read(const uint8_t *text, size_t text_length, uint16_t *steps, size_t steps_length);
+
+/* Writes the report of a text, zeros behind it; steps, work and witness are left all 0.
+ * Refused, always with number 12, or accepted with the number of bytes. */
+uint64_t krupovesh_report(const uint8_t *text, size_t text_length, uint16_t *steps, size_t steps_length,
+                          uint8_t *work, size_t work_length, uint16_t *witness, size_t witness_length,
+                          uint8_t *out, size_t out_length);
+
+#ifdef __cplusplus
+}
+#endif
+
+#endif
