@@ -9,7 +9,6 @@ use lib.ListN.{length, take, length-append}
 use lib.Seq.{take-at}
 use Rattle.graph.specs.Lists.{zeros, entries}
 use Rattle.graph.specs.Shows.{order, cycle}
-use Rattle.graph.proofs.Truth.{→is, →not-fails}
 use Rattle.verdict.specs.Limits.{transactions, work-bytes, witness-entries}
 use Rattle.verdict.specs.Refusal.{Refusal, taken, refused, _at_when_, _else-try_, log-refusal, search-refusal, work-refusal, witness-refusal}
 use Rattle.verdict.specs.Clean.{Fault, aborted-at, unfinal-at, Cleanness, clean, unclean, cleanness}
@@ -21,7 +20,7 @@ use Rattle.verdict.specs.declared.CleanAnswer.{CleanAnswer}
 use Rattle.verdict.specs.declared.SnapshotAnswer.{SnapshotAnswer}
 use Rattle.verdict.specs.declared.Answer.{Answer as CodeAnswer}
 use Rattle.verdict.specs.declared.Answer.the-variants as the-answer
-use Rattle.verdict.proofs.Refused.{when-no}
+use Rattle.verdict.proofs.Frame.{work-taken, witness-taken, both-taken}
 use Rattle.verdict.proofs.WellFormed.{refused≢taken, else-try→}
 use Rattle.text.specs.Bytes.{bytes}
 use Rattle.text.specs.Put.{Fits, Puts, PutsLine, most-long}
@@ -61,19 +60,6 @@ said-entries (shown (order v)) n h = h
 said-entries (shown (cycle c)) n h = h
 said-entries Answer.none n h = h
 said-entries (unclean-by f) n h = h
-
--- buffers of the right length
-pub work-taken : (work : List ℕ) → length work ≡ work-bytes → work-refusal work ≡ taken
-unfolding work-refusal
-work-taken work e = when-no 12 0 (→not-fails (→is e))
-
-pub witness-taken : (witness : List ℕ) → length witness ≡ witness-entries → witness-refusal witness ≡ taken
-unfolding witness-refusal
-witness-taken witness e = when-no 12 0 (→not-fails (→is e))
-
-pub both-taken : {a b : Refusal} → a ≡ taken → b ≡ taken → (a else-try b) ≡ taken
-unfolding _else-try_
-both-taken {b} e f = ap (λ (z : Refusal). z else-try b) e ∙ f
 
 module _ (log work : List ℕ) (well : log-refusal log ≡ taken) (sized : length work ≡ work-bytes) where
   no-refusal : (work-refusal work else-try log-refusal log) ≡ taken

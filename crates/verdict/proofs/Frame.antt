@@ -4,7 +4,7 @@ use mathlib.Core.List.{List, [], _∷_}
 use Prim.Native.Nat.{ℕ}
 use lib.ListN.{length}
 use Rattle.graph.specs.Lists.{zeros, entries}
-use Rattle.graph.proofs.Truth.{not-fails→, is→}
+use Rattle.graph.proofs.Truth.{not-fails→, →not-fails, is→, →is}
 use Rattle.verdict.specs.Limits.{work-bytes, witness-entries}
 use Rattle.verdict.specs.Refusal.{Refusal, taken, refused, _else-try_, work-refusal, witness-refusal}
 use Rattle.verdict.specs.declared.Checked.{Checked}
@@ -17,6 +17,7 @@ use Rattle.verdict.specs.Walk.{Answers}
 use Rattle.verdict.specs.declared.Answer.{Answer}
 use Rattle.verdict.specs.declared.Answer.the-variants as the-answer
 use Rattle.verdict.proofs.WellFormed.{else-try→, when→}
+use Rattle.verdict.proofs.Refused.{when-no, tried-taken}
 use Rattle.verdict.proofs.Steps.{said-refused, said-passed}
 
 -- what is not turned away has buffers of the right length
@@ -27,6 +28,18 @@ work-length work e = is→ (not-fails→ (when→ 12 0 _ e))
 pub witness-length : (witness : List ℕ) → witness-refusal witness ≡ taken → length witness ≡ witness-entries
 unfolding witness-refusal
 witness-length witness e = is→ (not-fails→ (when→ 12 0 _ e))
+
+-- buffers of the right length are not turned away
+pub work-taken : (work : List ℕ) → length work ≡ work-bytes → work-refusal work ≡ taken
+unfolding work-refusal
+work-taken work e = when-no 12 0 (→not-fails (→is e))
+
+pub witness-taken : (witness : List ℕ) → length witness ≡ witness-entries → witness-refusal witness ≡ taken
+unfolding witness-refusal
+witness-taken witness e = when-no 12 0 (→not-fails (→is e))
+
+pub both-taken : {a b : Refusal} → a ≡ taken → b ≡ taken → (a else-try b) ≡ taken
+both-taken {b} e f = tried-taken b e ∙ f
 
 -- a call with a witness that is taken: both buffers have the right length, and nothing else turns it away
 pub record Admitted (rest : Refusal) (work witness : List ℕ) : Type 0 where

@@ -117,19 +117,19 @@ pub front-none : (given : List ℕ) → Front given 0
 front-none given = record { front = refl; back = refl }
 
 module _ (t : ℕ) (l : List ℕ) where
-  stops : t ≡ 0 → up-to-zero (t ∷ l) ≡ []
+  pub stops : t ≡ 0 → up-to-zero (t ∷ l) ≡ []
   unfolding up-to-zero
   stops z = if-true _ _ (→is z)
 
-  goes : (t ≡ 0 → ⊥) → up-to-zero (t ∷ l) ≡ t ∷ up-to-zero l
+  pub goes : (t ≡ 0 → ⊥) → up-to-zero (t ∷ l) ≡ t ∷ up-to-zero l
   unfolding up-to-zero
   goes n = if-false _ _ (→isnt n)
 
-  starts : t ≡ 0 → from-zero (t ∷ l) ≡ t ∷ l
+  pub starts : t ≡ 0 → from-zero (t ∷ l) ≡ t ∷ l
   unfolding from-zero
   starts z = if-true _ _ (→is z)
 
-  passes : (t ≡ 0 → ⊥) → from-zero (t ∷ l) ≡ from-zero l
+  pub passes : (t ≡ 0 → ⊥) → from-zero (t ∷ l) ≡ from-zero l
   unfolding from-zero
   passes n = if-false _ _ (→isnt n)
 

@@ -10,8 +10,8 @@ pub mod Version
 pub mod Replay
 pub mod Exact
 pub mod Next
-pub mod Listing
 pub mod Said
 pub mod Call
+pub mod Listing
 pub mod Walk
 pub mod Placing
