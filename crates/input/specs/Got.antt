@@ -2,8 +2,8 @@
 use mathlib.Core.List.{List}
 use Prim.Native.Nat.{ℕ}
 use Rattle.io.specs.Counts.{Counts}
-use Rattle.krupovesh.specs.declared.Got.{Got}
-use Rattle.krupovesh.specs.declared.Got.the-variants.{Bytes, Failed}
+use Rattle.input.specs.declared.Got.{Got}
+use Rattle.input.specs.declared.Got.the-variants.{Bytes, Failed}
 
 abbrev pub Gets : Got → List ℕ → Type 0
 Gets (Bytes n) text = Counts n text

@@ -7,8 +7,8 @@ use mathlib.Core.List.{List}
 use Prim.Native.Nat.{ℕ, _-_, _≤_}
 use lib.ListN.{length, take, drop, length-drop}
 use lib.Seq.{length-take-le}
-use Rattle.krupovesh.proofs.read_text.Statement.{statement}
-use Rattle.krupovesh.proofs.read_text.Tie as tie
+use Rattle.input.proofs.read_text.Statement.{statement}
+use Rattle.input.proofs.read_text.Tie as tie
 
 abbrev Inv-loop : tie.InvT-loop
 Inv-loop fd text₀ n₀ text n = (n ≤ length text₀) × (length text ≡ length text₀)

@@ -1,0 +1,77 @@
+// The texts that a program is given: standard input, or the files that its arguments name.
+ghost use Rattle.input.specs.Got.{Gets};
+use libc::STDIN_FILENO;
+use libc::STDOUT_FILENO;
+
+// What reading gives: how many bytes, or that it failed.
+pub enum Got {
+    Bytes(usize),
+    Failed,
+}
+
+// Reads until the input ends or the buffer is full.
+fn read_text(fd: i32, text: &mut [u8]) -> Got
+    ensures { λ r. ⌜ Gets r (now (text .exit)) ⌝ }
+{
+    let mut n = 0;
+    while n < text.len() {
+        let part = &mut text[n..];
+        let got = libc::read(fd, part);
+        if got < 0 {
+            return Got::Failed;
+        }
+        let more = io::count(got, part);
+        if more == 0 {
+            return Got::Bytes(n);
+        }
+        n += more;
+    }
+    Got::Bytes(n)
+}
+
+// Reads standard input. Where that fails, standard error has a line.
+pub fn read_input(text: &mut [u8]) -> Got
+    ensures { λ r. ⌜ Gets r (now (text .exit)) ⌝ }
+{
+    let got = read_text(STDIN_FILENO, text);
+    if let Got::Failed = got {
+        os::fail(b"standard input");
+    }
+    got
+}
+
+// Reads a file that is open for reading, and prints the line `file=NAME`.
+fn read_file(fd: i32, name: &[u8], text: &mut [u8]) -> Got
+    ensures { λ r. ⌜ Gets r (now (text .exit)) ⌝ }
+{
+    let got = read_text(fd, text);
+    match got {
+        Got::Failed => os::fail(name),
+        Got::Bytes(_) => {
+            io::write_all(STDOUT_FILENO, b"file=");
+            io::write_all(STDOUT_FILENO, name);
+            io::write_all(STDOUT_FILENO, b"\n");
+        }
+    }
+    got
+}
+
+// Reads the file that an argument names, and prints the line `file=NAME`. Where that fails, standard error has a line.
+pub fn read_named(i: usize, text: &mut [u8]) -> Got
+    ensures { λ r. ⌜ Gets r (now (text .exit)) ⌝ }
+{
+    let mut name = io::buffer();
+    let n = os::arg(i, &mut name);
+    if os::errno() != 0 {
+        os::fail(b"a file name");
+        return Got::Failed;
+    }
+    let fd = os::open_read(&name[..n]);
+    if fd < 0 {
+        os::fail(&name[..n]);
+        return Got::Failed;
+    }
+    let got = read_file(fd, &name[..n], text);
+    libc::close(fd);
+    got
+}

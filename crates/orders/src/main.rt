@@ -1,0 +1,136 @@
+// The program: prints every order that explains the log on standard input, or in each file named, one a line, and last `none`.
+// A log that is turned away gets the line of its refusal instead.
+use input::Got;
+use input::read_input;
+use input::read_named;
+use libc::STDOUT_FILENO;
+use text::ReadAnswer;
+use text::Text;
+use text::read;
+use verdict::Answer;
+use verdict::Log;
+use verdict::Transaction;
+use verdict::next;
+use verdict::version;
+ghost use mathlib.Core.Path.{_≡_};
+ghost use mathlib.Core.Bool.{true};
+ghost use Prim.Native.Nat.{_<_};
+ghost use Rattle.verdict.proofs.Listing.{to-come};
+
+// An order as "next" takes it, and whether it was brought.
+struct Brought {
+    order: [u16; Transaction::COUNT],
+    more: bool,
+}
+
+// x, in a wider type.
+fn wide(x: u16) -> u64 {
+    x as u64
+}
+
+// Prints the line of a refusal.
+fn print_refused(number: u16, place: usize) {
+    io::write_all(STDOUT_FILENO, b"refused=");
+    io::print_decimal(STDOUT_FILENO, wide(number));
+    io::write_all(STDOUT_FILENO, b" at=");
+    io::print_decimal(STDOUT_FILENO, place as u64);
+    io::write_all(STDOUT_FILENO, b"\n");
+}
+
+// Prints the line of an order.
+fn print_order(order: &[u16]) {
+    io::write_all(STDOUT_FILENO, b"order");
+    let mut i = 0;
+    while i < order.len() {
+        io::write_all(STDOUT_FILENO, b" ");
+        io::print_decimal(STDOUT_FILENO, wide(order[i]));
+        i += 1;
+    }
+    io::write_all(STDOUT_FILENO, b"\n");
+}
+
+// Brings the order after the one given, and prints it.
+fn bring(log: &[u16], given: [u16; Transaction::COUNT]) -> Brought
+    ensures { λ r. ⌜ r .more ≡ true → to-come (now (log .entry)) (r .order) < to-come (now (log .entry)) given ⌝ }
+{
+    let mut work = [0u8; Log::WORK];
+    let mut order = [0u16; Transaction::COUNT];
+    let answer = next(log, &given, &mut work, &mut order);
+    if let Answer::Order(n) = answer {
+        print_order(&order[..n]);
+        return Brought { order, more: true };
+    }
+    Brought { order, more: false }
+}
+
+// Prints all orders after the first.
+fn print_later(log: &[u16], first: [u16; Transaction::COUNT]) {
+    let mut order = first;
+    let mut more = true;
+    while more {
+        let brought = bring(log, order);
+        let next = brought.order;
+        order = next;
+        more = brought.more;
+    }
+}
+
+// Prints every order that explains a log, and last `none`.
+fn print_listing(log: &[u16]) {
+    let mut work = [0u8; Log::WORK];
+    let mut witness = [0u16; Transaction::COUNT];
+    let answer = version(log, &mut work, &mut witness);
+    if let Answer::Refused(number, place) = answer {
+        print_refused(number, place);
+        return;
+    }
+    if let Answer::Order(n) = answer {
+        print_order(&witness[..n]);
+        print_later(log, witness);
+    }
+    io::write_all(STDOUT_FILENO, b"none\n");
+}
+
+// Prints every order that explains the log of a text.
+fn print_orders(text: &[u8]) {
+    let mut steps = [0u16; 4 * Log::LIMIT];
+    let answer = read(text, &mut steps);
+    match answer {
+        ReadAnswer::Refused(number, place) => print_refused(number, place),
+        ReadAnswer::Steps(n) => {
+            let end = 4 * n;
+            print_listing(&steps[..end])
+        }
+    }
+}
+
+// Prints the list of standard input.
+fn print_input() {
+    let mut text = [0u8; Text::LIMIT + 1];
+    let got = read_input(&mut text);
+    if let Got::Bytes(n) = got {
+        print_orders(&text[..n]);
+    }
+}
+
+// Prints the list of the file that an argument names.
+fn print_named(i: usize) {
+    let mut text = [0u8; Text::LIMIT + 1];
+    let got = read_named(i, &mut text);
+    if let Got::Bytes(n) = got {
+        print_orders(&text[..n]);
+    }
+}
+
+fn main() {
+    let count = os::arg_count();
+    if count < 2 {
+        print_input();
+        return;
+    }
+    let mut i = 1;
+    while i < count {
+        print_named(i);
+        i += 1;
+    }
+}
