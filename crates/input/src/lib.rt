@@ -1,40 +1,40 @@
 // The texts that a program is given: standard input, or the files that its arguments name.
-ghost use Rattle.input.specs.Got.{Gets};
+ghost use Rattle.io.specs.Counts.{Counts};
 use libc::STDIN_FILENO;
 use libc::STDOUT_FILENO;
 
-// What reading gives: how many bytes, or that it failed.
-pub enum Got {
-    Bytes(usize),
-    Failed,
+// What reading gives: how many bytes stand at the start of the buffer, and whether it failed.
+pub struct Got {
+    pub bytes: usize,
+    pub failed: bool,
 }
 
 // Reads until the input ends or the buffer is full.
 fn read_text(fd: i32, text: &mut [u8]) -> Got
-    ensures { λ r. ⌜ Gets r (now (text .exit)) ⌝ }
+    ensures { λ r. ⌜ Counts (r .bytes) (now (text .exit)) ⌝ }
 {
     let mut n = 0;
     while n < text.len() {
         let part = &mut text[n..];
         let got = libc::read(fd, part);
         if got < 0 {
-            return Got::Failed;
+            return Got { bytes: 0, failed: true };
         }
         let more = io::count(got, part);
         if more == 0 {
-            return Got::Bytes(n);
+            return Got { bytes: n, failed: false };
         }
         n += more;
     }
-    Got::Bytes(n)
+    Got { bytes: n, failed: false }
 }
 
 // Reads standard input. Where that fails, standard error has a line.
 pub fn read_input(text: &mut [u8]) -> Got
-    ensures { λ r. ⌜ Gets r (now (text .exit)) ⌝ }
+    ensures { λ r. ⌜ Counts (r .bytes) (now (text .exit)) ⌝ }
 {
     let got = read_text(STDIN_FILENO, text);
-    if let Got::Failed = got {
+    if got.failed {
         os::fail(b"standard input");
     }
     got
@@ -42,34 +42,33 @@ pub fn read_input(text: &mut [u8]) -> Got
 
 // Reads a file that is open for reading, and prints the line `file=NAME`.
 fn read_file(fd: i32, name: &[u8], text: &mut [u8]) -> Got
-    ensures { λ r. ⌜ Gets r (now (text .exit)) ⌝ }
+    ensures { λ r. ⌜ Counts (r .bytes) (now (text .exit)) ⌝ }
 {
     let got = read_text(fd, text);
-    match got {
-        Got::Failed => os::fail(name),
-        Got::Bytes(_) => {
-            io::write_all(STDOUT_FILENO, b"file=");
-            io::write_all(STDOUT_FILENO, name);
-            io::write_all(STDOUT_FILENO, b"\n");
-        }
+    if got.failed {
+        os::fail(name);
+        return got;
     }
+    io::write_all(STDOUT_FILENO, b"file=");
+    io::write_all(STDOUT_FILENO, name);
+    io::write_all(STDOUT_FILENO, b"\n");
     got
 }
 
 // Reads the file that an argument names, and prints the line `file=NAME`. Where that fails, standard error has a line.
 pub fn read_named(i: usize, text: &mut [u8]) -> Got
-    ensures { λ r. ⌜ Gets r (now (text .exit)) ⌝ }
+    ensures { λ r. ⌜ Counts (r .bytes) (now (text .exit)) ⌝ }
 {
     let mut name = io::buffer();
     let n = os::arg(i, &mut name);
     if os::errno() != 0 {
         os::fail(b"a file name");
-        return Got::Failed;
+        return Got { bytes: 0, failed: true };
     }
     let fd = os::open_read(&name[..n]);
     if fd < 0 {
         os::fail(&name[..n]);
-        return Got::Failed;
+        return Got { bytes: 0, failed: true };
     }
     let got = read_file(fd, &name[..n], text);
     libc::close(fd);

@@ -1,5 +1,4 @@
 // The program: prints the report of the text on standard input, or of each file named, under a line `file=NAME`.
-use input::Got;
 use input::read_input;
 use input::read_named;
 use libc::STDOUT_FILENO;
@@ -25,7 +24,8 @@ fn print_report(text: &[u8]) {
 fn print_input() {
     let mut text = [0u8; Text::LIMIT + 1];
     let got = read_input(&mut text);
-    if let Got::Bytes(n) = got {
+    let n = got.bytes;
+    if !got.failed {
         print_report(&text[..n]);
     }
 }
@@ -34,7 +34,8 @@ fn print_input() {
 fn print_named(i: usize) {
     let mut text = [0u8; Text::LIMIT + 1];
     let got = read_named(i, &mut text);
-    if let Got::Bytes(n) = got {
+    let n = got.bytes;
+    if !got.failed {
         print_report(&text[..n]);
     }
 }

@@ -1,6 +1,5 @@
 // The program: prints every order that explains the log on standard input, or in each file named, one a line, and last `none`.
 // A log that is turned away gets the line of its refusal instead.
-use input::Got;
 use input::read_input;
 use input::read_named;
 use libc::STDOUT_FILENO;
@@ -51,7 +50,7 @@ fn print_order(order: &[u16]) {
 
 // Brings the order after the one given, and prints it.
 fn bring(log: &[u16], given: [u16; Transaction::COUNT]) -> Brought
-    ensures { λ r. ⌜ r .more ≡ true → to-come (now (log .entry)) (r .order) < to-come (now (log .entry)) given ⌝ }
+    ensures { λ r. ⌜ (r .more ≡ true → to-come (now (log .entry)) (r .order) < to-come (now (log .entry)) given) ⌝ }
 {
     let mut work = [0u8; Log::WORK];
     let mut order = [0u16; Transaction::COUNT];
@@ -108,7 +107,8 @@ fn print_orders(text: &[u8]) {
 fn print_input() {
     let mut text = [0u8; Text::LIMIT + 1];
     let got = read_input(&mut text);
-    if let Got::Bytes(n) = got {
+    let n = got.bytes;
+    if !got.failed {
         print_orders(&text[..n]);
     }
 }
@@ -117,7 +117,8 @@ fn print_input() {
 fn print_named(i: usize) {
     let mut text = [0u8; Text::LIMIT + 1];
     let got = read_named(i, &mut text);
-    if let Got::Bytes(n) = got {
+    let n = got.bytes;
+    if !got.failed {
         print_orders(&text[..n]);
     }
 }

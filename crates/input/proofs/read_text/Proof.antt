@@ -43,7 +43,9 @@ same-length : tie.Need-same-length Inv-loop μ-loop
 same-length c = let l = c .before .before .before .before .before .before .before .before .before .loop in same-len-mid (l .n) (length (l .text) - l .n) (l .text) (c .before .before .before .before .before .read .last .1 .0) (c .before .before .before .before .before .read .kept .1 .0) ∙ l .inv .1
 
 returns : tie.Need-returns Inv-loop μ-loop
-returns c = tt
+returns c =
+    let l = c .before .before .before .before .before .before .before .before .before .loop in
+    counted (putMid (l .n) (length (l .text) - l .n) (l .text) (c .before .before .before .before .before .read .last .1 .0)) 0 (omega arith)
 
 count-requires : tie.Need-count-requires Inv-loop μ-loop
 count-requires c κs = tt

@@ -1,2 +1,0 @@
--- What reading a text promises.
-pub mod Got
