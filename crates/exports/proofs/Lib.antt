@@ -1,0 +1,3 @@
+-- The laws of the packing, and the theorems over it.
+pub mod Values
+pub mod Only
