@@ -1,13 +1,14 @@
--- The values of every answer that a call allows have 16 bits each, so that its number has 48.
-use mathlib.Core.Path.{_≡_, sym, ap, subst, _∙_}
+-- The values of every answer that a call allows have 16 bits each, so that its number is small and tells it.
+use mathlib.Core.Path.{_≡_, refl, sym, ap, subst, _∙_}
 use mathlib.Core.List.{List}
-use Prim.Native.Nat.{ℕ, suc, _≤_, _<_}
+use Prim.Native.Nat.{ℕ, suc, _<_}
 use native.Mathlib.Omega.{arith}
 use lib.ListN.{length}
+use Rattle.graph.specs.Tests.{_is_, if_then_else_}
 use Rattle.graph.specs.Shows.{order, cycle}
 use Rattle.verdict.specs.Limits.{transactions, most-steps}
 use Rattle.verdict.specs.Log.{steps}
-use Rattle.verdict.specs.Refusal.{Refusal, taken, refused, log-refusal, search-refusal, witness-refusal}
+use Rattle.verdict.specs.Refusal.{Refusal, taken, refused, log-refusal}
 use Rattle.verdict.specs.Clean.{Fault, aborted-at, unfinal-at, Cleanness, clean, unclean, cleanness}
 use Rattle.verdict.specs.Snapshot.{Snapshot, snapshot, read-at, write-at-with, snapshot-verdict}
 use Rattle.verdict.specs.Answer.{Answer, shown, none, unclean-by}
@@ -25,25 +26,19 @@ use Rattle.text.specs.declared.reports.ReportAnswer.{ReportAnswer}
 use Rattle.text.proofs.Room.{read-within, buffers-within, says-few, report-fits}
 use Rattle.exports.specs.Packed.{packed, packed-fault, packed-clean, packed-snapshot, packed-answer, packed-read, packed-report}
 use Rattle.exports.specs.Small.{Small}
-
-packed-small : (kind first second : ℕ) → kind < 65536 → first < 65536 → second < 65536 → Small (packed kind first second)
-unfolding packed
-packed-small kind first second h i j = omega arith
+use Rattle.exports.proofs.Heard.{hear-fault, hear-clean, hear-snapshot, hear-answer, hear-read, hear-report, Told, tells}
 
 -- refused, with a number and a place
-refused-small : {number place : ℕ} → (number < 10000) × (place < 10000) → Small (packed 0 number place)
-refused-small {number} {place} h = packed-small 0 number place (omega arith) (omega (arith, h .0)) (omega (arith, h .1))
+tells-refused : {A : Type 0} {pack : A → ℕ} {hear : (kind first second : ℕ) → A} {a : A} {number place : ℕ} → (number < 10000) × (place < 10000)
+    → pack a ≡ packed 0 number place → hear 0 number place ≡ a → Told pack hear a
+tells-refused {number} {place} h = tells 0 number place (omega arith) (omega (arith, h .0)) (omega (arith, h .1))
 
--- any other kind, with one value
-one-small : (kind first : ℕ) → kind < 65536 → first ≤ 2048 → Small (packed kind first 0)
-one-small kind first h i = packed-small kind first 0 h (omega arith) (omega arith)
-
--- what a call answers is small, if what it may say is
-call-small : {A R : Type 0} {given : Refusal → Type 0} {away : ℕ → ℕ → R} {verdict : A → Type 0} {says : A → R} {leaves : A → List (List ℕ)} {before : List (List ℕ)}
-    (pack : R → ℕ) → ((n p : ℕ) → given (refused n p) → Small (pack (away n p))) → ((a : A) → given taken → verdict a → Small (pack (says a)))
-    → {r : R} {after : List (List ℕ)} → Call given away verdict says leaves before r after → Small (pack r)
-call-small {R} pack f g (turned-away n p e x y) = subst (λ (z : R). Small (pack z)) (sym x) (f n p e)
-call-small {R} pack f g (answered a e v x y) = subst (λ (z : R). Small (pack z)) (sym x) (g a e v)
+-- what a call answers is told, if what it may say is
+call-told : {A R : Type 0} {given : Refusal → Type 0} {away : ℕ → ℕ → R} {verdict : A → Type 0} {says : A → R} {leaves : A → List (List ℕ)} {before : List (List ℕ)}
+    {pack : R → ℕ} {hear : (kind first second : ℕ) → R} → ((n p : ℕ) → given (refused n p) → Told pack hear (away n p)) → ((a : A) → given taken → verdict a → Told pack hear (says a))
+    → {r : R} {after : List (List ℕ)} → Call given away verdict says leaves before r after → Told pack hear r
+call-told {pack} {hear} f g (turned-away n p e x y) = subst (Told pack hear) (sym x) (f n p e)
+call-told {pack} {hear} f g (answered a e v x y) = subst (Told pack hear) (sym x) (g a e v)
 
 -- an answer that is known
 pub known-small : {A : Type 0} (pack : A → ℕ) {a b : A} → a ≡ b → Small (pack a) → Small (pack b)
@@ -53,74 +48,78 @@ pub known-packed : {A : Type 0} (pack : A → ℕ) {a b : A} {r : ℕ} → a ≡
 known-packed pack e h = h ∙ sym (ap pack e)
 
 -- THE VERDICTS
-fault-small : (f : Fault) → FaultUpto most-steps f → Small (packed-fault (said-fault f))
-unfolding packed-fault said-fault
-fault-small (aborted-at k) (aborted-upto h) = one-small 4 k (omega arith) (omega arith)
-fault-small (unfinal-at k) (unfinal-upto h) = one-small 5 k (omega arith) (omega arith)
+unclean-told : (f : Fault) → FaultUpto most-steps f → Told packed-clean hear-clean (said-clean (unclean f))
+unfolding packed-clean packed-fault said-clean said-fault hear-clean hear-fault if_then_else_ _is_
+unclean-told (aborted-at k) (aborted-upto h) = tells 4 k 0 (omega arith) (omega arith) (omega arith) refl refl
+unclean-told (unfinal-at k) (unfinal-upto h) = tells 5 k 0 (omega arith) (omega arith) (omega arith) refl refl
 
-snapshot-value : (s : Snapshot) → SnapshotUpto most-steps (suc transactions) s → Small (packed-snapshot (said-snapshot s))
-unfolding packed-snapshot said-snapshot
-snapshot-value snapshot snapshot-fine = one-small 7 0 (omega arith) (omega arith)
-snapshot-value (read-at k) (read-upto h) = one-small 8 k (omega arith) (omega arith)
-snapshot-value (write-at-with k t) (write-upto h i) = packed-small 9 k t (omega arith) (omega arith) (omega arith)
+snapshot-says : (s : Snapshot) → SnapshotUpto most-steps (suc transactions) s → Told packed-snapshot hear-snapshot (said-snapshot s)
+unfolding packed-snapshot said-snapshot hear-snapshot if_then_else_ _is_
+snapshot-says snapshot snapshot-fine = tells 7 0 0 (omega arith) (omega arith) (omega arith) refl refl
+snapshot-says (read-at k) (read-upto h) = tells 8 k 0 (omega arith) (omega arith) (omega arith) refl refl
+snapshot-says (write-at-with k t) (write-upto h i) = tells 9 k t (omega arith) (omega arith) (omega arith) refl refl
 
-answer-value : (a : Answer) → AnswerUpto most-steps transactions a → Small (packed-answer (said a))
-unfolding packed-answer said
-answer-value (shown (order w)) (order-upto h) = one-small 1 (length w) (omega arith) (omega arith)
-answer-value (shown (cycle c)) (cycle-upto h) = one-small 2 (length c) (omega arith) (omega arith)
-answer-value none none-fine = one-small 3 0 (omega arith) (omega arith)
-answer-value (unclean-by f) (unclean-upto h) = fault-small f h
+answer-says : (a : Answer) → AnswerUpto most-steps transactions a → Told packed-answer hear-answer (said a)
+unfolding packed-answer packed-fault said said-fault hear-answer hear-fault if_then_else_ _is_
+answer-says (shown (order w)) (order-upto h) = tells 1 (length w) 0 (omega arith) (omega arith) (omega arith) refl refl
+answer-says (shown (cycle c)) (cycle-upto h) = tells 2 (length c) 0 (omega arith) (omega arith) (omega arith) refl refl
+answer-says none none-fine = tells 3 0 0 (omega arith) (omega arith) (omega arith) refl refl
+answer-says (unclean-by (aborted-at k)) (unclean-upto (aborted-upto h)) = tells 4 k 0 (omega arith) (omega arith) (omega arith) refl refl
+answer-says (unclean-by (unfinal-at k)) (unclean-upto (unfinal-upto h)) = tells 5 k 0 (omega arith) (omega arith) (omega arith) refl refl
 
 module _ (log work : List ℕ) where
-  clean-value : log-refusal log ≡ taken → (a : Cleanness) → a ≡ cleanness log → Small (packed-clean (said-clean a))
-  unfolding packed-clean said-clean
-  clean-value well clean e = one-small 7 0 (omega arith) (omega arith)
-  clean-value well (unclean f) e = fault-small f (fault-few log well (sym e))
+  clean-says : log-refusal log ≡ taken → (a : Cleanness) → a ≡ cleanness log → Told packed-clean hear-clean (said-clean a)
+  unfolding packed-clean said-clean hear-clean if_then_else_ _is_
+  clean-says well clean e = tells 7 0 0 (omega arith) (omega arith) (omega arith) refl refl
+  clean-says well (unclean f) e = unclean-told f (fault-few log well (sym e))
 
-  pub clean-small : {r : CleanAnswer} {work′ : List ℕ} → CleanCall log work r work′ → Small (packed-clean r)
-  unfolding packed-clean
-  clean-small c =
-      call-small packed-clean (λ n p e. refused-small (within-else _ _ (work-within work) (λ t. log-within log) n p (sym e)))
-      (λ a e v. clean-value (else-try→ (sym e) .1) a v) c
+  pub clean-told : {r : CleanAnswer} {work′ : List ℕ} → CleanCall log work r work′ → Told packed-clean hear-clean r
+  unfolding packed-clean hear-clean if_then_else_ _is_
+  clean-told c =
+      call-told (λ n p e. tells-refused (within-else _ _ (work-within work) (λ t. log-within log) n p (sym e)) refl refl)
+      (λ a e v. clean-says (else-try→ (sym e) .1) a v) c
 
-  pub snapshot-small : {r : SnapshotAnswer} {work′ : List ℕ} → SnapshotCall log work r work′ → Small (packed-snapshot r)
-  unfolding packed-snapshot
-  snapshot-small c =
-      call-small packed-snapshot (λ n p e. refused-small (within-else _ _ (work-within work) (λ t. log-within log) n p (sym e)))
-      (λ (a : Snapshot) e (v : a ≡ snapshot-verdict transactions log). snapshot-value a (rw v (snapshot-few log (else-try→ (sym e) .1)))) c
+  pub snapshot-told : {r : SnapshotAnswer} {work′ : List ℕ} → SnapshotCall log work r work′ → Told packed-snapshot hear-snapshot r
+  unfolding packed-snapshot hear-snapshot if_then_else_ _is_
+  snapshot-told c =
+      call-told (λ n p e. tells-refused (within-else _ _ (work-within work) (λ t. log-within log) n p (sym e)) refl refl)
+      (λ (a : Snapshot) e (v : a ≡ snapshot-verdict transactions log). snapshot-says a (rw v (snapshot-few log (else-try→ (sym e) .1)))) c
 
 -- THE VERDICTS WITH A WITNESS
 module _ (work witness : List ℕ) where
-  witness-small : (refusal : Refusal) {verdict : Answer → Type 0} → Within refusal → ((a : Answer) → refusal ≡ taken → verdict a → AnswerUpto most-steps transactions a)
-      → {r : CodeAnswer} {work′ witness′ : List ℕ} → WitnessCall refusal verdict work witness r work′ witness′ → Small (packed-answer r)
-  unfolding packed-answer
-  witness-small refusal h few c =
-      call-small packed-answer (λ n p e. refused-small (within-else _ _ (work-within work) (λ t. within-else _ _ (witness-within witness) (λ u. h)) n p (sym e)))
-      (λ a e v. answer-value a (few a (else-try→ (else-try→ (sym e) .1) .1) v)) c
+  witness-told : (refusal : Refusal) {verdict : Answer → Type 0} → Within refusal → ((a : Answer) → refusal ≡ taken → verdict a → AnswerUpto most-steps transactions a)
+      → {r : CodeAnswer} {work′ witness′ : List ℕ} → WitnessCall refusal verdict work witness r work′ witness′ → Told packed-answer hear-answer r
+  unfolding packed-answer hear-answer if_then_else_ _is_
+  witness-told refusal h few c =
+      call-told (λ n p e. tells-refused (within-else _ _ (work-within work) (λ t. within-else _ _ (witness-within witness) (λ u. h)) n p (sym e)) refl refl)
+      (λ a e v. answer-says a (few a (else-try→ (else-try→ (sym e) .1) .1) v)) c
 
   module _ (log : List ℕ) {r : CodeAnswer} {work′ witness′ : List ℕ} where
-    pub conflict-small : ConflictCall log work witness r work′ witness′ → Small (packed-answer r)
-    conflict-small = witness-small (log-refusal log) (log-within log) (λ a well v. conflict-few log well v)
+    pub conflict-told : ConflictCall log work witness r work′ witness′ → Told packed-answer hear-answer r
+    conflict-told = witness-told (log-refusal log) (log-within log) (λ a well v. conflict-few log well v)
 
-    pub version-small : VersionCall log work witness r work′ witness′ → Small (packed-answer r)
-    version-small = witness-small (log-refusal log) (log-within log) (λ a well v. version-few log well v)
+    pub version-told : VersionCall log work witness r work′ witness′ → Told packed-answer hear-answer r
+    version-told = witness-told (log-refusal log) (log-within log) (λ a well v. version-few log well v)
 
-    pub exact-small : ExactCall log work witness r work′ witness′ → Small (packed-answer r)
-    exact-small =
-        witness-small _ (within-else _ _ (log-within log) (λ well. search-within log well)) (λ a e v. exact-few log (else-try→ e .0) v)
+    pub exact-told : ExactCall log work witness r work′ witness′ → Told packed-answer hear-answer r
+    exact-told =
+        witness-told _ (within-else _ _ (log-within log) (λ well. search-within log well)) (λ a e v. exact-few log (else-try→ e .0) v)
 
-    pub next-small : (given : List ℕ) → NextCall log given work witness r work′ witness′ → Small (packed-answer r)
-    next-small given =
-        witness-small _ (within-else _ _ (witness-within given) (λ t. within-else _ _ (log-within log) (λ u. list-within transactions log given)))
+    pub next-told : (given : List ℕ) → NextCall log given work witness r work′ witness′ → Told packed-answer hear-answer r
+    next-told given =
+        witness-told _ (within-else _ _ (witness-within given) (λ t. within-else _ _ (log-within log) (λ u. list-within transactions log given)))
         (λ a e v. next-few log (else-try→ (else-try→ e .1) .0) v)
 
 -- THE TEXT
-pub read-small : {text steps : List ℕ} {r : ReadAnswer} {steps′ : List ℕ} → ReadCall text steps r steps′ → Small (packed-read r)
-unfolding packed-read said-steps
-read-small c = call-small packed-read (λ n p e. refused-small (read-within e)) (λ log e s. one-small 10 (steps log) (omega arith) (omega (arith, says-few s))) c
+pub read-told : {text steps : List ℕ} {r : ReadAnswer} {steps′ : List ℕ} → ReadCall text steps r steps′ → Told packed-read hear-read r
+unfolding packed-read said-steps hear-read if_then_else_ _is_
+read-told c =
+    call-told (λ n p e. tells-refused (read-within e) refl refl)
+    (λ log e s. tells 10 (steps log) 0 (omega arith) (omega (arith, says-few s)) (omega arith) refl refl) c
 
-pub report-small : (steps work witness out : List ℕ) {text : List ℕ} {r : ReportAnswer} {steps′ work′ witness′ out′ : List ℕ}
-    → ReportCall text steps work witness out r steps′ work′ witness′ out′ → Small (packed-report r)
-unfolding packed-report said-length
-report-small steps work witness out c =
-    call-small packed-report (λ n p e. refused-small (buffers-within steps work witness out n p (sym e))) (λ w e s. one-small 10 (length w) (omega arith) (report-fits s)) c
+pub report-told : (steps work witness out : List ℕ) {text : List ℕ} {r : ReportAnswer} {steps′ work′ witness′ out′ : List ℕ}
+    → ReportCall text steps work witness out r steps′ work′ witness′ out′ → Told packed-report hear-report r
+unfolding packed-report said-length hear-report if_then_else_ _is_
+report-told steps work witness out c =
+    call-told (λ n p e. tells-refused (buffers-within steps work witness out n p (sym e)) refl refl)
+    (λ w e s. tells 10 (length w) 0 (omega arith) (omega (arith, report-fits s)) (omega arith) refl refl) c

@@ -1,7 +1,6 @@
 // The C face: each function answers one number, packed as the header says. It may be handed buffers of any length and any contents.
 mod pack;
 
-ghost use mathlib.Core.Path.{_≡_};
 ghost use Rattle.verdict.specs.Call.{CleanCall, SnapshotCall, ConflictCall, VersionCall, ExactCall, NextCall};
 ghost use Rattle.text.specs.ReadCall.{ReadCall};
 ghost use Rattle.text.specs.ReportCall.{ReportCall};

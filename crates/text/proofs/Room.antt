@@ -21,8 +21,8 @@ use Rattle.verdict.specs.Refusal.{taken, refused, log-refusal}
 use Rattle.verdict.specs.Clean.{Fault, aborted-at, unfinal-at, Cleanness, clean, unclean, cleanness}
 use Rattle.verdict.specs.Snapshot.{Snapshot, snapshot, read-at, write-at-with, snapshot-verdict}
 use Rattle.verdict.specs.Answer.{Answer, shown, unclean-by}
-use Rattle.verdict.specs.Conflict.{conflict-edge, Conflict, conflict}
-use Rattle.verdict.specs.Version.{version-edge, Version, version, version-unclean}
+use Rattle.verdict.specs.Conflict.{conflict-edge, conflict}
+use Rattle.verdict.specs.Version.{version-edge, version, version-unclean}
 use Rattle.verdict.specs.Replay.{serial}
 use Rattle.verdict.specs.Exact.{Exact, exact, exact-none, exact-unclean}
 use Rattle.verdict.proofs.WellFormed.{well-formed}

@@ -16,7 +16,7 @@ use Rattle.graph.proofs.Judge.{nodes-length, once-length, cycle-length}
 use Rattle.verdict.specs.Limits.{transactions, most-steps}
 use Rattle.verdict.specs.Log.{steps, committed, committed-count, aborted, src}
 use Rattle.verdict.specs.Refusal.{Refusal, taken, refused, _at_when_, _else-try_, tried, range-refusal, life-refusal, source-refusal, step-refusal, open-refusal, log-refusal, search-refusal, work-refusal, witness-refusal}
-use Rattle.verdict.specs.Clean.{Fault, aborted-at, unfinal-at, Cleanness, clean, unclean, is-clean, faulty-read, fault-at, cleanness}
+use Rattle.verdict.specs.Clean.{Fault, aborted-at, unfinal-at, clean, unclean, is-clean, faulty-read, fault-at, cleanness}
 use Rattle.verdict.specs.Snapshot.{Snapshot, snapshot, read-at, write-at-with, clash, wrong-read, wrong-step, snapshot-fault, snapshot-verdict}
 use Rattle.verdict.specs.Answer.{Answer, shown, none, unclean-by}
 use Rattle.verdict.specs.Conflict.{conflict-edge, Conflict, conflict}

@@ -1,7 +1,7 @@
 -- `krupovesh_conflict` meets its contract: the number of the answer that the call gave.
 use borrow.Author.Needs.{needs}
 use Rattle.exports.specs.Packed.{packs}
-use Rattle.exports.proofs.Values.{conflict-small}
+use Rattle.exports.proofs.Values.{conflict-told}
 use Rattle.exports.proofs.krupovesh_conflict.Statement.{statement}
 use Rattle.exports.proofs.krupovesh_conflict.Tie as tie
 
@@ -9,7 +9,7 @@ conflict-requires : tie.Need-conflict-requires
 conflict-requires c κs = search needs
 
 pack-answer-requires : tie.Need-pack-answer-requires
-pack-answer-requires c κs = conflict-small _ _ _ (c .before .before .before .before .conflict .ensures)
+pack-answer-requires c κs = conflict-told _ _ _ (c .before .before .before .before .conflict .ensures) .small
 
 same-length : tie.Need-same-length
 same-length c = search needs

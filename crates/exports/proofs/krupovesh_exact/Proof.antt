@@ -1,7 +1,7 @@
 -- `krupovesh_exact` meets its contract: the number of the answer that the call gave.
 use borrow.Author.Needs.{needs}
 use Rattle.exports.specs.Packed.{packs}
-use Rattle.exports.proofs.Values.{exact-small}
+use Rattle.exports.proofs.Values.{exact-told}
 use Rattle.exports.proofs.krupovesh_exact.Statement.{statement}
 use Rattle.exports.proofs.krupovesh_exact.Tie as tie
 
@@ -9,7 +9,7 @@ exact-requires : tie.Need-exact-requires
 exact-requires c κs = search needs
 
 pack-answer-requires : tie.Need-pack-answer-requires
-pack-answer-requires c κs = exact-small _ _ _ (c .before .before .before .before .exact .ensures)
+pack-answer-requires c κs = exact-told _ _ _ (c .before .before .before .before .exact .ensures) .small
 
 same-length : tie.Need-same-length
 same-length c = search needs

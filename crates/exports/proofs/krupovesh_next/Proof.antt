@@ -1,7 +1,7 @@
 -- `krupovesh_next` meets its contract: the number of the answer that the call gave.
 use borrow.Author.Needs.{needs}
 use Rattle.exports.specs.Packed.{packs}
-use Rattle.exports.proofs.Values.{next-small}
+use Rattle.exports.proofs.Values.{next-told}
 use Rattle.exports.proofs.krupovesh_next.Statement.{statement}
 use Rattle.exports.proofs.krupovesh_next.Tie as tie
 
@@ -9,7 +9,7 @@ next-requires : tie.Need-next-requires
 next-requires c κs = search needs
 
 pack-answer-requires : tie.Need-pack-answer-requires
-pack-answer-requires c κs = next-small _ _ _ _ (c .before .before .before .before .next .ensures)
+pack-answer-requires c κs = next-told _ _ _ _ (c .before .before .before .before .next .ensures) .small
 
 same-length : tie.Need-same-length
 same-length c = search needs

@@ -1,7 +1,7 @@
 -- `krupovesh_report` meets its contract: the number of the answer that the call gave.
 use borrow.Author.Needs.{needs}
 use Rattle.exports.specs.Packed.{packs}
-use Rattle.exports.proofs.Values.{report-small}
+use Rattle.exports.proofs.Values.{report-told}
 use Rattle.exports.proofs.krupovesh_report.Statement.{statement}
 use Rattle.exports.proofs.krupovesh_report.Tie as tie
 
@@ -9,7 +9,7 @@ report-requires : tie.Need-report-requires
 report-requires c κs = search needs
 
 pack-report-requires : tie.Need-pack-report-requires
-pack-report-requires c κs = report-small _ _ _ _ (c .before .before .before .before .before .before .before .before .report .ensures)
+pack-report-requires c κs = report-told _ _ _ _ (c .before .before .before .before .before .before .before .before .report .ensures) .small
 
 same-length : tie.Need-same-length
 same-length c = search needs

@@ -1,7 +1,7 @@
 -- `krupovesh_version` meets its contract: the number of the answer that the call gave.
 use borrow.Author.Needs.{needs}
 use Rattle.exports.specs.Packed.{packs}
-use Rattle.exports.proofs.Values.{version-small}
+use Rattle.exports.proofs.Values.{version-told}
 use Rattle.exports.proofs.krupovesh_version.Statement.{statement}
 use Rattle.exports.proofs.krupovesh_version.Tie as tie
 
@@ -9,7 +9,7 @@ version-requires : tie.Need-version-requires
 version-requires c κs = search needs
 
 pack-answer-requires : tie.Need-pack-answer-requires
-pack-answer-requires c κs = version-small _ _ _ (c .before .before .before .before .version .ensures)
+pack-answer-requires c κs = version-told _ _ _ (c .before .before .before .before .version .ensures) .small
 
 same-length : tie.Need-same-length
 same-length c = search needs
