@@ -1,43 +1,44 @@
--- How long the lines of a report are: every report has room in its buffer.
-use mathlib.Core.Path.{_≡_, refl, sym, ap, _∙_}
+-- How long the lines of a report are: every report has room in its buffer. And how large the values of the calls are.
+use mathlib.Core.Path.{_≡_, refl, ap, _∙_}
 use mathlib.Core.Bool.{Bool, true, false}
 use mathlib.Core.List.{List, [], _∷_, _++_}
-use mathlib.Core.Logic.{_⊎_, inl, inr, ⊎-elim}
+use mathlib.Core.Logic.{_⊎_, inl, inr}
 use mathlib.Core.Option.{Option, none, some as just}
-use Prim.Native.Nat.{ℕ, zero, suc, _+_, _*_, _/_, _≤_, _<_}
+use Prim.Native.Nat.{ℕ, suc, _+_, _*_, _/_, _≤_, _<_}
 use native.Mathlib.Omega.{arith}
 use lib.ListN.{length, length-append}
-use Rattle.graph.specs.Tests.{_below_, if_then_else_, some, count, lowest}
+use Rattle.graph.specs.Tests.{_below_}
 use Rattle.graph.specs.Lists.{member, all}
 use Rattle.graph.specs.Order.{once-each, is-order}
 use Rattle.graph.specs.Cycle.{is-cycle}
 use Rattle.graph.specs.Shows.{Shown, order, cycle, Shows, shows-order, shows-cycle}
-use Rattle.graph.proofs.Truth.{decide, to-false, and→, below→, not-below→, if-true, if-false, lowest-bound, count-above}
+use Rattle.graph.proofs.Truth.{decide, and→, below→, not-below→}
 use Rattle.graph.proofs.Places.{member-head, member-tail, all→}
-use Rattle.graph.proofs.Judge.{nodes, nodes-length, there-node, once-over, once-length, cycle-over, cycle-length}
+use Rattle.graph.proofs.Judge.{nodes, there-node, once-over, cycle-over}
 use Rattle.verdict.specs.Limits.{transactions, most-steps}
-use Rattle.verdict.specs.Log.{steps, committed, committed-count, aborted, src}
-use Rattle.verdict.specs.Refusal.{Refusal, taken, refused, _at_when_, _else-try_, tried, range-refusal, life-refusal, source-refusal, step-refusal, open-refusal, log-refusal}
-use Rattle.verdict.specs.Clean.{Fault, aborted-at, unfinal-at, Cleanness, clean, unclean, is-clean, faulty-read, fault-at, cleanness}
-use Rattle.verdict.specs.Snapshot.{snapshot, read-at, write-at-with, clash, wrong-read, wrong-step, snapshot-fault, snapshot-verdict}
+use Rattle.verdict.specs.Log.{steps, committed, committed-count}
+use Rattle.verdict.specs.Refusal.{taken, refused, log-refusal}
+use Rattle.verdict.specs.Clean.{Fault, aborted-at, unfinal-at, Cleanness, clean, unclean, cleanness}
+use Rattle.verdict.specs.Snapshot.{Snapshot, snapshot, read-at, write-at-with, snapshot-verdict}
 use Rattle.verdict.specs.Answer.{Answer, shown, unclean-by}
-use Rattle.verdict.specs.Conflict.{conflict-edge, Conflict, conflict}
-use Rattle.verdict.specs.Version.{version-edge, Version, version, version-unclean}
+use Rattle.verdict.specs.Conflict.{conflict-edge, conflict}
+use Rattle.verdict.specs.Version.{version-edge, version, version-unclean}
 use Rattle.verdict.specs.Replay.{serial}
 use Rattle.verdict.specs.Exact.{Exact, exact, exact-none, exact-unclean}
-use Rattle.verdict.proofs.WellFormed.{refused≢taken, else-try→, when→, Well, well-formed}
-use Rattle.verdict.proofs.Only.{clean≢unclean}
-use Rattle.verdict.proofs.Versions.{committed-range}
+use Rattle.verdict.proofs.WellFormed.{well-formed}
 use Rattle.verdict.proofs.Judge.{cleanness-clean, loosely-serial, conflict-ends, version-ends}
+use Rattle.verdict.proofs.Bounds.{Within, within-when, log-within, FaultUpto, aborted-upto, unfinal-upto, SnapshotUpto, snapshot-fine, read-upto, write-upto, few-steps, few-committed, once-few, cycle-few, fault-few, snapshot-few}
 use Rattle.text.specs.Bytes.{bytes, blank, line-end}
 use Rattle.text.specs.Decimal.{decimal}
 use Rattle.text.specs.Line.{item, header}
-use Rattle.text.specs.Reading.{Reading, no-header, too-many, bad-line, extra}
+use Rattle.text.specs.Reading.{Says, Reading, no-header, too-many, bad-line, extra}
+use Rattle.text.specs.ReadCall.{ReadRefusal, wrong-buffer, too-long, by-line}
 use Rattle.text.specs.ReportLine.{refused-line, committed-line, clean-line, snapshot-line, numbers, fault-step, value, answer-line}
 use Rattle.text.specs.Report.{ConflictLine, conflict-line, VersionLine, version-line, ExactLine, over-line, exact-line, first-lines, LogReport, log-refused, judged, ReportOf, text-too-long, text-refused, text-read}
 use Rattle.text.specs.Put.{most-long, most-short}
-use Rattle.text.specs.ReportCall.{report-bytes}
+use Rattle.text.specs.ReportCall.{report-bytes, buffers-refusal}
 use Rattle.text.proofs.Puts.{one-length, last-length}
+use Rattle.text.proofs.Only.{steps-count}
 
 -- DIGITS
 one-digit : (n : ℕ) → n < 10 → length (decimal n) ≤ 1
@@ -55,14 +56,6 @@ three-digits = more-digits 100 2 (omega arith) (more-digits 10 1 (omega arith) o
 
 pub four-digits : (n : ℕ) → n < 10000 → length (decimal n) ≤ 4
 four-digits = more-digits 1000 3 (omega arith) three-digits
-
-count-upto : (n : ℕ) (p : ℕ → Bool) → count n p ≤ n
-unfolding count
-count-upto zero p = omega arith
-count-upto (suc n) p =
-    let r : count n p ≤ n = count-upto n p in
-    ⊎-elim (λ (k : p n ≡ true). let e : count (suc n) p ≡ suc (count n p) = if-true _ _ k in omega arith)
-    (λ (k : p n ≡ false). let e : count (suc n) p ≡ count n p = if-false _ _ k in omega arith) (decide (p n))
 
 -- KEYS WITH THEIR VALUES
 item-length : (key v : List ℕ) (behind : ℕ) → length (item key v behind) ≡ length key + length v + 1
@@ -113,84 +106,57 @@ answer-length : (key : List ℕ) (a : Option Answer) → length key ≤ 9 → le
 unfolding answer-line
 answer-length key a h k = omega (arith, item-length key (value a) line-end)
 
+-- the step of a fault, in the lines that tell it
+fault-length : (f : Fault) → FaultUpto most-steps f → length (clean-line (unclean f)) ≤ most-short
+unfolding clean-line bytes
+fault-length (aborted-at k) (aborted-upto h) = omega (arith, number-item (bytes "clean=aborted at ") line-end k (omega arith))
+fault-length (unfinal-at k) (unfinal-upto h) = omega (arith, number-item (bytes "clean=unfinal at ") line-end k (omega arith))
+
+unclean-length : (f : Fault) → FaultUpto most-steps f → length (value (just (unclean-by f))) ≤ most-value
+unfolding value bytes fault-step
+unclean-length (aborted-at k) (aborted-upto h) = omega (arith, four-digits k (omega arith))
+unclean-length (unfinal-at k) (unfinal-upto h) = omega (arith, four-digits k (omega arith))
+
 module _ (log : List ℕ) (well : log-refusal log ≡ taken) where
-  formed : Well transactions log
-  formed = well-formed log well
-
-  few-steps : steps log ≤ most-steps
-  unfolding log-refusal
-  few-steps = not-below→ (when→ 2 0 _ (else-try→ (else-try→ well .1) .0))
-
-  -- at most as many nodes as transactions
-  few-nodes : count (suc transactions) (committed log) ≤ transactions
-  few-nodes = count-above transactions (committed log) (to-false _ (λ h. let r = committed-range log formed 0 h .0 in omega arith))
-
   -- an order or a cycle
-  once-few : (w : List ℕ) → once-each (suc transactions) (committed log) w ≡ true → length (numbers w) ≤ 516
-  once-few w h =
+  once-long : (w : List ℕ) → once-each (suc transactions) (committed log) w ≡ true → length (numbers w) ≤ 516
+  once-long w h =
       omega (
         arith,
         over-nodes (suc transactions) (committed log) w (omega arith) (once-over (suc transactions) (committed log) w h),
-        once-length (suc transactions) (committed log) w h,
-        nodes-length (suc transactions) (committed log),
-        few-nodes,
+        once-few log well w h,
       )
 
-  cycle-few : (edge : ℕ → ℕ → Bool) → ((a b : ℕ) → edge a b ≡ true → (a < suc transactions) × (committed log a ≡ true)) → (c : List ℕ) → is-cycle edge c ≡ true
+  cycle-long : (edge : ℕ → ℕ → Bool) → ((a b : ℕ) → edge a b ≡ true → (a < suc transactions) × (committed log a ≡ true)) → (c : List ℕ) → is-cycle edge c ≡ true
       → length (numbers c) ≤ 516
-  cycle-few edge ends c h =
+  cycle-long edge ends c h =
       omega (
         arith,
         over-nodes (suc transactions) (committed log) c (omega arith) (cycle-over (suc transactions) (committed log) edge ends c h),
-        cycle-length (suc transactions) (committed log) edge ends c h,
-        nodes-length (suc transactions) (committed log),
-        few-nodes,
+        cycle-few log well edge ends c h,
       )
 
   shown-length : (edge : ℕ → ℕ → Bool) → ((a b : ℕ) → edge a b ≡ true → (a < suc transactions) × (committed log a ≡ true)) → (s : Shown)
       → Shows (suc transactions) (committed log) edge s → length (value (just (shown s))) ≤ most-value
   unfolding value bytes is-order
-  shown-length edge ends (order w) (shows-order n f) = omega (arith, once-few w (and→ (f .one) .0))
-  shown-length edge ends (cycle c) (shows-cycle f) = omega (arith, cycle-few edge ends c (f .one))
-
-  -- the step of a fault
-  fault-bound : {f : Fault} → cleanness log ≡ unclean f → fault-step f ≤ most-steps
-  unfolding cleanness fault-at fault-step if_then_else_
-  fault-bound {f} e = go (is-clean log) (aborted log (src log k)) e
-    where
-      k : ℕ
-      k = lowest (steps log) (faulty-read log)
-
-      low : k ≤ most-steps
-      low = omega (arith, lowest-bound {n = steps log} (faulty-read log), few-steps)
-
-      go : (b c : Bool) → (if b then clean else unclean (if c then aborted-at k else unfinal-at k)) ≡ unclean f → fault-step f ≤ most-steps
-      go true c e = absurd (clean≢unclean refl e)
-      go false true e = let z : aborted-at k ≡ f = cc in rw (← z) low
-      go false false e = let z : unfinal-at k ≡ f = cc in rw (← z) low
-
-  unclean-length : (f : Fault) → cleanness log ≡ unclean f → length (value (just (unclean-by f))) ≤ most-value
-  unfolding value bytes
-  unclean-length f e =
-      let b : fault-step f ≤ most-steps = fault-bound e in
-      let d : length (decimal (fault-step f)) ≤ 4 = four-digits (fault-step f) (omega arith) in
-      omega arith
+  shown-length edge ends (order w) (shows-order n f) = omega (arith, once-long w (and→ (f .one) .0))
+  shown-length edge ends (cycle c) (shows-cycle f) = omega (arith, cycle-long edge ends c (f .one))
 
   pub conflict-fits : {w : List ℕ} → ConflictLine log w → length w ≤ most-long
   unfolding bytes
-  conflict-fits (conflict-line (conflict {s} h)) = answer-length (bytes "conflict=") (just (shown s)) (omega arith) (shown-length (conflict-edge log) (conflict-ends log formed) s h)
+  conflict-fits (conflict-line (conflict {s} h)) = answer-length (bytes "conflict=") (just (shown s)) (omega arith) (shown-length (conflict-edge log) (conflict-ends log (well-formed log well)) s h)
 
   pub version-fits : {w : List ℕ} → VersionLine log w → length w ≤ most-long
   unfolding bytes
   version-fits (version-line (version {s} c h)) =
-      answer-length (bytes "version=") (just (shown s)) (omega arith) (shown-length (version-edge log) (version-ends log formed (cleanness-clean log c)) s h)
-  version-fits (version-line (version-unclean {f} e)) = answer-length (bytes "version=") (just (unclean-by f)) (omega arith) (unclean-length f e)
+      answer-length (bytes "version=") (just (shown s)) (omega arith) (shown-length (version-edge log) (version-ends log (well-formed log well) (cleanness-clean log c)) s h)
+  version-fits (version-line (version-unclean {f} e)) = answer-length (bytes "version=") (just (unclean-by f)) (omega arith) (unclean-length f (fault-few log well e))
 
   exact-value : (a : Answer) → Exact transactions log a → length (value (just a)) ≤ most-value
   unfolding value bytes serial
-  exact-value (shown (order w)) (exact f) = omega (arith, once-few w (loosely-serial transactions log w (f .one)))
+  exact-value (shown (order w)) (exact f) = omega (arith, once-long w (loosely-serial transactions log w (f .one)))
   exact-value Answer.none (exact-none c n) = omega arith
-  exact-value (unclean-by f) (exact-unclean e) = unclean-length f e
+  exact-value (unclean-by f) (exact-unclean e) = unclean-length f (fault-few log well e)
 
   pub exact-fits : {w : List ℕ} → ExactLine log w → length w ≤ most-long
   unfolding value bytes
@@ -199,50 +165,33 @@ module _ (log : List ℕ) (well : log-refusal log ≡ taken) where
 
   -- THE LINES BEFORE THEM
   pub steps-fits : length (header (steps log)) ≤ most-short
-  steps-fits = let h : steps log ≤ most-steps = few-steps in steps-length (steps log) (omega arith)
+  steps-fits = let h : steps log ≤ most-steps = few-steps log well in steps-length (steps log) (omega arith)
 
   pub committed-fits : length (committed-line (committed-count log)) ≤ most-short
-  unfolding committed-count
-  committed-fits =
-      let h : steps log ≤ most-steps = few-steps in
-      let k : committed-count log ≤ steps log = count-upto (steps log) _ in
-      committed-length (committed-count log) (omega arith)
+  committed-fits = let h : committed-count log ≤ most-steps = few-committed log well in committed-length (committed-count log) (omega arith)
 
   pub clean-fits : length (clean-line (cleanness log)) ≤ most-short
-  unfolding clean-line bytes fault-step
-  clean-fits = go (cleanness log) (λ f e. fault-bound {f = f} e) refl
+  unfolding clean-line bytes
+  clean-fits = go (cleanness log) (λ f e. fault-few log well {f = f} e)
     where
-      go : (c : Cleanness) → ((f : Fault) → cleanness log ≡ unclean f → fault-step f ≤ most-steps) → cleanness log ≡ c → length (clean-line c) ≤ most-short
-      go clean h e = omega arith
-      go (unclean (aborted-at k)) h e = let b : k ≤ most-steps = h (aborted-at k) e in omega (arith, number-item (bytes "clean=aborted at ") line-end k (omega arith))
-      go (unclean (unfinal-at k)) h e = let b : k ≤ most-steps = h (unfinal-at k) e in omega (arith, number-item (bytes "clean=unfinal at ") line-end k (omega arith))
+      go : (c : Cleanness) → ((f : Fault) → c ≡ unclean f → FaultUpto most-steps f) → length (clean-line c) ≤ most-short
+      go clean h = omega arith
+      go (unclean f) h = fault-length f (h f refl)
 
   pub snapshot-fits : length (snapshot-line (snapshot-verdict transactions log)) ≤ most-short
-  unfolding snapshot-verdict snapshot-fault snapshot-line if_then_else_ bytes
-  snapshot-fits = go (some (steps log) (wrong-step transactions log)) (wrong-read log k)
+  unfolding snapshot-line bytes
+  snapshot-fits = go (snapshot-verdict transactions log) (snapshot-few log well)
     where
-      k : ℕ
-      k = lowest (steps log) (wrong-step transactions log)
-
-      t : ℕ
-      t = lowest (suc transactions) (clash log k)
-
-      low : k ≤ most-steps
-      low = omega (arith, lowest-bound {n = steps log} (wrong-step transactions log), few-steps)
-
-      partner-low : t ≤ suc transactions
-      partner-low = lowest-bound (clash log k)
-
-      go : (b c : Bool) → length (snapshot-line (if b then if c then read-at k else write-at-with k t else snapshot)) ≤ most-short
-      go true true = omega (arith, number-item (bytes "snapshot=read at ") line-end k (omega (arith, low)))
-      go true false =
+      go : (s : Snapshot) → SnapshotUpto most-steps (suc transactions) s → length (snapshot-line s) ≤ most-short
+      go snapshot snapshot-fine = omega arith
+      go (read-at k) (read-upto h) = omega (arith, number-item (bytes "snapshot=read at ") line-end k (omega arith))
+      go (write-at-with k t) (write-upto h i) =
           omega (
             arith,
             length-append (item (bytes "snapshot=write at ") (decimal k) blank) (item (bytes "with ") (decimal t) line-end),
-            number-item (bytes "snapshot=write at ") blank k (omega (arith, low)),
-            number-item (bytes "with ") line-end t (omega (arith, partner-low)),
+            number-item (bytes "snapshot=write at ") blank k (omega arith),
+            number-item (bytes "with ") line-end t (omega arith),
           )
-      go false c = omega arith
 
   pub first-fit : length (first-lines log) ≤ 4 * most-short
   unfolding first-lines
@@ -254,48 +203,25 @@ module _ (log : List ℕ) (well : log-refusal log ≡ taken) where
       omega (arith, length-append (a ++ b ++ c) d, length-append (a ++ b) c, length-append a b, steps-fits, committed-fits, clean-fits, snapshot-fits)
 
 -- REFUSALS
--- the numbers and places that a refusal may have
-abbrev Within : Refusal → Type 0
-Within r = (n p : ℕ) → r ≡ refused n p → (n < 10000) × (p < 10000)
-
-within-when : (m q : ℕ) (b : Bool) → m < 10000 → q < 10000 → Within (m at q when b)
-unfolding _at_when_
-within-when m q true h k n p e = let x : m ≡ n = cc in let y : q ≡ p = cc in (omega arith, omega arith)
-within-when m q false h k n p e = absurd (refused≢taken (sym e))
-
-within-else : (a b : Refusal) → Within a → (a ≡ taken → Within b) → Within (a else-try b)
-unfolding _else-try_
-within-else taken b f g n p e = g refl n p e
-within-else (refused m q) b f g n p e = f n p e
-
-within-tried : (n : ℕ) (f : ℕ → Refusal) → ((i : ℕ) → i < n → Within (f i)) → Within (tried n f)
-unfolding tried
-within-tried zero f h = λ m p e. absurd (refused≢taken (sym e))
-within-tried (suc n) f h = within-else (tried n f) (f n) (within-tried n f (λ (i : ℕ) (k : i < n). h i (omega arith))) (λ t. h n (omega arith))
-
-step-within : (log : List ℕ) (i : ℕ) → i < 10000 → Within (step-refusal log i)
-unfolding step-refusal range-refusal life-refusal source-refusal
-step-within log i h =
-    within-else _ _
-    (within-else _ _ (within-when 3 i _ (omega arith) h) (λ t. within-else _ _ (within-when 4 i _ (omega arith) h) (λ t. within-else _ _ (within-when 5 i _ (omega arith) h) (λ t. within-when 6 i _ (omega arith) h))))
-    (λ t. within-else _ _
-    (within-else _ _ (within-when 7 i _ (omega arith) h) (λ t. within-when 8 i _ (omega arith) h))
-    (λ t. within-else _ _ (within-when 9 i _ (omega arith) h) (λ t. within-when 10 i _ (omega arith) h)))
-
-pub log-within : (log : List ℕ) → Within (log-refusal log)
-unfolding log-refusal open-refusal
-log-within log =
-    within-else _ _ (within-when 1 0 _ (omega arith) (omega arith))
-    (λ t. within-else _ _ (within-when 2 0 _ (omega arith) (omega arith))
-    (λ u. within-else _ _
-    (within-tried (steps log) (step-refusal log) (λ (i : ℕ) (h : i < steps log). let s : steps log ≤ most-steps = not-below→ (when→ 2 0 _ u) in step-within log i (omega arith)))
-    (λ v. within-tried (suc transactions) _ (λ (i : ℕ) (h : i < suc transactions). within-when 11 i _ (omega arith) (omega arith)))))
-
+-- the numbers and places that a text's refusal may have
 pub reading-within : {text : List ℕ} {n p : ℕ} → Reading text (refused n p) → (n < 10000) × (p < 10000)
 reading-within (no-header h) = (omega arith, omega arith)
 reading-within (too-many n rest s h e) = (omega arith, omega arith)
 reading-within (bad-line n i log rest h k s e f) = (omega arith, omega arith)
 reading-within (extra n b log rest h s e) = (omega arith, omega arith)
+
+pub read-within : {text buffer : List ℕ} {n p : ℕ} → ReadRefusal text buffer (refused n p) → (n < 10000) × (p < 10000)
+read-within (wrong-buffer h) = (omega arith, omega arith)
+read-within (too-long h k) = (omega arith, omega arith)
+read-within (by-line h k r) = reading-within r
+
+pub buffers-within : (steps work witness out : List ℕ) → Within (buffers-refusal steps work witness out)
+unfolding buffers-refusal
+buffers-within steps work witness out = within-when 12 0 _ (omega arith) (omega arith)
+
+-- the steps of a text
+pub says-few : {text log : List ℕ} → Says text log → steps log ≤ most-steps
+says-few s = omega (arith, s .few, steps-count (s .each))
 
 -- EVERY REPORT HAS ROOM
 pub log-report-fits : {log w : List ℕ} → LogReport log w → length w ≤ report-bytes

@@ -6,13 +6,12 @@ use Prim.Native.Nat.{ℕ, zero, suc, _+_, _-_, _≤_}
 use native.Mathlib.Omega.{arith}
 use lib.ListN.{length, take, length-append, length-replicate}
 use lib.Seq.{take-at}
-use Rattle.graph.specs.Tests.{_is_, count}
+use Rattle.graph.specs.Tests.{_is_}
 use Rattle.graph.specs.Lists.{member, all, zeros, entries}
 use Rattle.graph.specs.Order.{once-each}
 use Rattle.graph.specs.Shows.{order, cycle}
-use Rattle.graph.proofs.Truth.{to-false, and→, →and, →is, →not-fails, count-above}
+use Rattle.graph.proofs.Truth.{and→, →and, →is, →not-fails}
 use Rattle.graph.proofs.Places.{member-head, member-tail, all→}
-use Rattle.graph.proofs.Judge.{nodes-length, once-length}
 use Rattle.verdict.specs.Limits.{transactions, work-bytes, witness-entries}
 use Rattle.verdict.specs.Log.{committed}
 use Rattle.verdict.specs.Refusal.{Refusal, taken, log-refusal}
@@ -24,10 +23,11 @@ use Rattle.verdict.specs.Said.{said, witness as witness-of}
 use Rattle.verdict.specs.Call.{Call, turned-away, answered, leaves-witness, WitnessCall}
 use Rattle.verdict.specs.declared.Fault.{Fault}
 use Rattle.verdict.specs.declared.Answer.the-variants.{Order, Cycle, Nothing, Unclean}
-use Rattle.verdict.proofs.WellFormed.{Well, else-try→}
+use Rattle.verdict.proofs.WellFormed.{else-try→, well-formed}
 use Rattle.verdict.proofs.Versions.{committed-range}
 use Rattle.verdict.proofs.Judge.{explains-serial}
 use Rattle.verdict.proofs.Refused.{when-no}
+use Rattle.verdict.proofs.Bounds.{once-few}
 use Rattle.verdict.proofs.NextLaws.{stops, goes, starts, passes}
 
 -- MEMBERS, NONE OF THEM 0, AND ZEROS BEHIND
@@ -52,24 +52,14 @@ all-zero zero = refl
 all-zero (suc k) = →and (→is refl) (all-zero k)
 
 -- AN EXPLAINING ORDER IN A WITNESS
-module _ (log : List ℕ) (well : Well transactions log) (w : List ℕ) (h : explains transactions log w ≡ true) where
+module _ (log : List ℕ) (well : log-refusal log ≡ taken) (w : List ℕ) (h : explains transactions log w ≡ true) where
   once : once-each (suc transactions) (committed log) w ≡ true
   unfolding serial
   once = explains-serial transactions log w h
 
   no-zero : NoZero w
   unfolding once-each
-  no-zero t m e = let r = committed-range log well t (and→ (all→ _ w (and→ (and→ once .0) .1) t m) .1) .0 in omega arith
-
-  -- it has room
-  order-length : length w ≤ transactions
-  order-length =
-      omega (
-        arith,
-        once-length (suc transactions) (committed log) w once,
-        nodes-length (suc transactions) (committed log),
-        count-above transactions (committed log) (to-false _ (λ c. let r = committed-range log well 0 c .0 in omega arith)),
-      )
+  no-zero t m e = let r = committed-range log (well-formed log well) t (and→ (all→ _ w (and→ (and→ once .0) .1) t m) .1) .0 in omega arith
 
   -- it is what "next" reads there
   pub read-back : up-to-zero (entries witness-entries w) ≡ w
@@ -82,7 +72,7 @@ module _ (log : List ℕ) (well : Well transactions log) (w : List ℕ) (h : exp
       let z = zeros (witness-entries - length w) in
       let e : length (w ++ z) ≡ length w + length z = length-append w z in
       let f : length z ≡ witness-entries - length w = length-replicate (witness-entries - length w) 0 in
-      omega (arith, order-length)
+      omega (arith, once-few log well w once)
 
   -- 14 does not turn it away
   pub held-taken : list-refusal transactions log (entries witness-entries w) ≡ taken
@@ -98,6 +88,7 @@ pub record Ordered (refusal : Refusal) (verdict : Answer → Type 0) (n : ℕ) (
   pub w : List ℕ
   pub right : verdict (shown (order w))
   pub left : witness′ ≡ entries witness-entries w
+  pub room : n ≤ length witness′
   pub taken-out : take n witness′ ≡ w
 
 told-order : (a : Answer) {n : ℕ} → Order n ≡ said a → (w : List ℕ) × (a ≡ shown (order w)) × (n ≡ length w)
@@ -144,6 +135,7 @@ module _ (refusal : Refusal) {verdict : Answer → Type 0} {work witness work′
         w = w;
         right = rw (t .1) at v;
         left = l;
+        room = let e : length witness′ ≡ length w + length (zeros (witness-entries - length w)) = ap length l ∙ length-append w (zeros (witness-entries - length w)) in omega (arith, t .2);
         taken-out = ap (take n) l ∙ take-at w (zeros (witness-entries - length w)) n (sym (t .2));
       }
 

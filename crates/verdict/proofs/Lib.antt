@@ -20,6 +20,7 @@ pub mod VersionGraph
 pub mod Some
 pub mod Searching
 pub mod Only
+pub mod Bounds
 pub mod NextLaws
 pub mod Held
 pub mod Listing

@@ -108,17 +108,14 @@ record Holds (log w given : List ℕ) : Type 0 where
   left : given ≡ entries witness-entries w
 
 module _ {log w given : List ℕ} (h : Holds log w given) where
-  formed : Well transactions log
-  formed = well-formed log (h .well)
-
   -- "next" reads it back, and does not turn it away
   holds-front : up-to-zero given ≡ w
-  holds-front = ap up-to-zero (h .left) ∙ read-back log formed w (h .right)
+  holds-front = ap up-to-zero (h .left) ∙ read-back log (h .well) w (h .right)
 
   holds-taken : asks log given ≡ taken
   holds-taken =
-      let size : length given ≡ witness-entries = ap length (h .left) ∙ held-length log formed w (h .right) in
-      both-taken (witness-taken given size) (both-taken (h .well) (rw (h .left) (held-taken log formed w (h .right))))
+      let size : length given ≡ witness-entries = ap length (h .left) ∙ held-length log (h .well) w (h .right) in
+      both-taken (witness-taken given size) (both-taken (h .well) (rw (h .left) (held-taken log (h .well) w (h .right))))
 
 module _ (log : List ℕ) where
   -- the order of `version` is the first that explains

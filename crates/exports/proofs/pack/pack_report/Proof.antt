@@ -1,0 +1,43 @@
+-- `pack_report` meets its contract: each case has its number.
+use borrow.Author.Needs.{needs}
+use Rattle.exports.specs.Packed.{packed-report}
+use Rattle.exports.proofs.Values.{known-small, known-packed}
+use Rattle.exports.proofs.pack.pack_report.Statement.{statement}
+use Rattle.exports.proofs.pack.pack_report.Tie as tie
+
+enum-known-answer : tie.Need-enum-known-answer
+enum-known-answer c = search needs
+
+cast-pack : tie.Need-cast-pack
+cast-pack c = search needs
+
+pack-requires : tie.Need-pack-requires
+unfolding packed-report
+pack-requires c κs = known-small packed-report (c .before .answer .given .1) (c .before .before .before .pre)
+
+enum-known-answer-2 : tie.Need-enum-known-answer-2
+enum-known-answer-2 c = search needs
+
+pack-requires-2 : tie.Need-pack-requires-2
+unfolding packed-report
+pack-requires-2 c κs = known-small packed-report (c .before .answer2 .given .1) (c .before .before .before .pre)
+
+returns : tie.Need-returns
+unfolding packed-report
+returns c = known-packed packed-report (c .before .before .answer .given .1) (c .pack .ensures)
+
+returns-2 : tie.Need-returns-2
+unfolding packed-report
+returns-2 c = known-packed packed-report (c .before .before .answer2 .given .1) (c .pack2 .ensures)
+
+pub pack-report-spec : {M : Type 1} → statement M
+pack-report-spec =
+    tie.close
+    (tie.spec
+    enum-known-answer
+    cast-pack
+    pack-requires
+    enum-known-answer-2
+    pack-requires-2
+    returns
+    returns-2)

@@ -1,0 +1,197 @@
+-- How large the values of an answer are, and the number and the place of a refusal: for whoever prints or packs them.
+use mathlib.Core.Path.{_≡_, refl, sym}
+use mathlib.Core.Bool.{Bool, true, false}
+use mathlib.Core.List.{List}
+use mathlib.Core.Logic.{⊎-elim}
+use Prim.Native.Nat.{ℕ, zero, suc, _≤_, _<_}
+use native.Mathlib.Omega.{arith}
+use lib.ListN.{length}
+use Rattle.graph.specs.Tests.{if_then_else_, some, count, lowest}
+use Rattle.graph.specs.First.{later}
+use Rattle.graph.specs.Order.{once-each, is-order}
+use Rattle.graph.specs.Cycle.{is-cycle}
+use Rattle.graph.specs.Shows.{Shown, order, cycle, Shows, shows-order, shows-cycle}
+use Rattle.graph.proofs.Truth.{decide, to-false, and→, not-below→, if-true, if-false, lowest-bound, count-above}
+use Rattle.graph.proofs.Judge.{nodes-length, once-length, cycle-length}
+use Rattle.verdict.specs.Limits.{transactions, most-steps}
+use Rattle.verdict.specs.Log.{steps, committed, committed-count, aborted, src}
+use Rattle.verdict.specs.Refusal.{Refusal, taken, refused, _at_when_, _else-try_, tried, range-refusal, life-refusal, source-refusal, step-refusal, open-refusal, log-refusal, search-refusal, work-refusal, witness-refusal}
+use Rattle.verdict.specs.Clean.{Fault, aborted-at, unfinal-at, clean, unclean, is-clean, faulty-read, fault-at, cleanness}
+use Rattle.verdict.specs.Snapshot.{Snapshot, snapshot, read-at, write-at-with, clash, wrong-read, wrong-step, snapshot-fault, snapshot-verdict}
+use Rattle.verdict.specs.Answer.{Answer, shown, none, unclean-by}
+use Rattle.verdict.specs.Conflict.{conflict-edge, Conflict, conflict}
+use Rattle.verdict.specs.Version.{version-edge, Version, version, version-unclean}
+use Rattle.verdict.specs.Replay.{serial}
+use Rattle.verdict.specs.Exact.{Exact, exact, exact-none, exact-unclean}
+use Rattle.verdict.specs.Next.{Next, next, next-none, list-refusal}
+use Rattle.verdict.proofs.WellFormed.{refused≢taken, else-try→, when→, Well, well-formed}
+use Rattle.verdict.proofs.Only.{clean≢unclean}
+use Rattle.verdict.proofs.Versions.{committed-range}
+use Rattle.verdict.proofs.Judge.{cleanness-clean, loosely-serial, explains-serial, conflict-ends, version-ends}
+
+-- REFUSALS
+-- the numbers and places that a refusal may have
+abbrev pub Within : Refusal → Type 0
+Within r = (n p : ℕ) → r ≡ refused n p → (n < 10000) × (p < 10000)
+
+pub within-when : (m q : ℕ) (b : Bool) → m < 10000 → q < 10000 → Within (m at q when b)
+unfolding _at_when_
+within-when m q true h k n p e = let x : m ≡ n = cc in let y : q ≡ p = cc in (omega arith, omega arith)
+within-when m q false h k n p e = absurd (refused≢taken (sym e))
+
+pub within-else : (a b : Refusal) → Within a → (a ≡ taken → Within b) → Within (a else-try b)
+unfolding _else-try_
+within-else taken b f g n p e = g refl n p e
+within-else (refused m q) b f g n p e = f n p e
+
+within-tried : (n : ℕ) (f : ℕ → Refusal) → ((i : ℕ) → i < n → Within (f i)) → Within (tried n f)
+unfolding tried
+within-tried zero f h = λ m p e. absurd (refused≢taken (sym e))
+within-tried (suc n) f h = within-else (tried n f) (f n) (within-tried n f (λ (i : ℕ) (k : i < n). h i (omega arith))) (λ t. h n (omega arith))
+
+step-within : (log : List ℕ) (i : ℕ) → i < 10000 → Within (step-refusal log i)
+unfolding step-refusal range-refusal life-refusal source-refusal
+step-within log i h =
+    within-else _ _
+    (within-else _ _ (within-when 3 i _ (omega arith) h) (λ t. within-else _ _ (within-when 4 i _ (omega arith) h) (λ t. within-else _ _ (within-when 5 i _ (omega arith) h) (λ t. within-when 6 i _ (omega arith) h))))
+    (λ t. within-else _ _
+    (within-else _ _ (within-when 7 i _ (omega arith) h) (λ t. within-when 8 i _ (omega arith) h))
+    (λ t. within-else _ _ (within-when 9 i _ (omega arith) h) (λ t. within-when 10 i _ (omega arith) h)))
+
+pub log-within : (log : List ℕ) → Within (log-refusal log)
+unfolding log-refusal open-refusal
+log-within log =
+    within-else _ _ (within-when 1 0 _ (omega arith) (omega arith))
+    (λ t. within-else _ _ (within-when 2 0 _ (omega arith) (omega arith))
+    (λ u. within-else _ _
+    (within-tried (steps log) (step-refusal log) (λ (i : ℕ) (h : i < steps log). let s : steps log ≤ most-steps = not-below→ (when→ 2 0 _ u) in step-within log i (omega arith)))
+    (λ v. within-tried (suc transactions) _ (λ (i : ℕ) (h : i < suc transactions). within-when 11 i _ (omega arith) (omega arith)))))
+
+pub work-within : (work : List ℕ) → Within (work-refusal work)
+unfolding work-refusal
+work-within work = within-when 12 0 _ (omega arith) (omega arith)
+
+pub witness-within : (witness : List ℕ) → Within (witness-refusal witness)
+unfolding witness-refusal
+witness-within witness = within-when 12 0 _ (omega arith) (omega arith)
+
+pub list-within : (most : ℕ) (log given : List ℕ) → Within (list-refusal most log given)
+unfolding list-refusal
+list-within most log given = within-when 14 0 _ (omega arith) (omega arith)
+
+-- ANSWERS
+-- a fault at a step up to n
+pub data FaultUpto (n : ℕ) : Fault → Type 0 where
+  aborted-upto : {k : ℕ} → k ≤ n → FaultUpto n (aborted-at k)
+  unfinal-upto : {k : ℕ} → k ≤ n → FaultUpto n (unfinal-at k)
+
+-- a wrong step up to n, and a partner up to m
+pub data SnapshotUpto (n m : ℕ) : Snapshot → Type 0 where
+  snapshot-fine : SnapshotUpto n m snapshot
+  read-upto : {k : ℕ} → k ≤ n → SnapshotUpto n m (read-at k)
+  write-upto : {k t : ℕ} → k ≤ n → t ≤ m → SnapshotUpto n m (write-at-with k t)
+
+-- an order or a cycle of at most m members, or a fault at a step up to n
+pub data AnswerUpto (n m : ℕ) : Answer → Type 0 where
+  order-upto : {w : List ℕ} → length w ≤ m → AnswerUpto n m (shown (order w))
+  cycle-upto : {c : List ℕ} → length c ≤ m → AnswerUpto n m (shown (cycle c))
+  none-fine : AnswerUpto n m none
+  unclean-upto : {f : Fault} → FaultUpto n f → AnswerUpto n m (unclean-by f)
+
+count-upto : (n : ℕ) (p : ℕ → Bool) → count n p ≤ n
+unfolding count
+count-upto zero p = omega arith
+count-upto (suc n) p =
+    let r : count n p ≤ n = count-upto n p in
+    ⊎-elim (λ (k : p n ≡ true). let e : count (suc n) p ≡ suc (count n p) = if-true _ _ k in omega arith)
+    (λ (k : p n ≡ false). let e : count (suc n) p ≡ count n p = if-false _ _ k in omega arith) (decide (p n))
+
+module _ (log : List ℕ) (well : log-refusal log ≡ taken) where
+  formed : Well transactions log
+  formed = well-formed log well
+
+  pub few-steps : steps log ≤ most-steps
+  unfolding log-refusal
+  few-steps = not-below→ (when→ 2 0 _ (else-try→ (else-try→ well .1) .0))
+
+  pub few-committed : committed-count log ≤ most-steps
+  unfolding committed-count
+  few-committed =
+      let h : steps log ≤ most-steps = few-steps in
+      let k : committed-count log ≤ steps log = count-upto (steps log) _ in
+      omega arith
+
+  pub search-within : Within (search-refusal log)
+  unfolding search-refusal
+  search-within = within-when 13 (committed-count log) _ (omega arith) (omega (arith, few-committed))
+
+  -- at most as many nodes as transactions
+  few-nodes : count (suc transactions) (committed log) ≤ transactions
+  few-nodes = count-above transactions (committed log) (to-false _ (λ h. let r = committed-range log formed 0 h .0 in omega arith))
+
+  -- an order, and a cycle
+  pub once-few : (w : List ℕ) → once-each (suc transactions) (committed log) w ≡ true → length w ≤ transactions
+  once-few w h = omega (arith, once-length (suc transactions) (committed log) w h, nodes-length (suc transactions) (committed log), few-nodes)
+
+  pub cycle-few : (edge : ℕ → ℕ → Bool) → ((a b : ℕ) → edge a b ≡ true → (a < suc transactions) × (committed log a ≡ true)) → (c : List ℕ) → is-cycle edge c ≡ true
+      → length c ≤ transactions
+  cycle-few edge ends c h =
+      omega (arith, cycle-length (suc transactions) (committed log) edge ends c h, nodes-length (suc transactions) (committed log), few-nodes)
+
+  shown-few : (edge : ℕ → ℕ → Bool) → ((a b : ℕ) → edge a b ≡ true → (a < suc transactions) × (committed log a ≡ true)) → (s : Shown)
+      → Shows (suc transactions) (committed log) edge s → AnswerUpto most-steps transactions (shown s)
+  unfolding is-order
+  shown-few edge ends (order w) (shows-order n f) = order-upto (once-few w (and→ (f .one) .0))
+  shown-few edge ends (cycle c) (shows-cycle f) = cycle-upto (cycle-few edge ends c (f .one))
+
+  -- the step of a fault
+  pub fault-few : {f : Fault} → cleanness log ≡ unclean f → FaultUpto most-steps f
+  unfolding cleanness fault-at if_then_else_
+  fault-few {f} e = go (is-clean log) (aborted log (src log k)) e
+    where
+      k : ℕ
+      k = lowest (steps log) (faulty-read log)
+
+      low : k ≤ most-steps
+      low = omega (arith, lowest-bound {n = steps log} (faulty-read log), few-steps)
+
+      go : (b c : Bool) → (if b then clean else unclean (if c then aborted-at k else unfinal-at k)) ≡ unclean f → FaultUpto most-steps f
+      go true c e = absurd (clean≢unclean refl e)
+      go false true e = let z : aborted-at k ≡ f = cc in rw (← z) (aborted-upto low)
+      go false false e = let z : unfinal-at k ≡ f = cc in rw (← z) (unfinal-upto low)
+
+  pub snapshot-few : SnapshotUpto most-steps (suc transactions) (snapshot-verdict transactions log)
+  unfolding snapshot-verdict snapshot-fault if_then_else_
+  snapshot-few = go (some (steps log) (wrong-step transactions log)) (wrong-read log k)
+    where
+      k : ℕ
+      k = lowest (steps log) (wrong-step transactions log)
+
+      t : ℕ
+      t = lowest (suc transactions) (clash log k)
+
+      low : k ≤ most-steps
+      low = omega (arith, lowest-bound {n = steps log} (wrong-step transactions log), few-steps)
+
+      go : (b c : Bool) → SnapshotUpto most-steps (suc transactions) (if b then if c then read-at k else write-at-with k t else snapshot)
+      go true true = read-upto low
+      go true false = write-upto low (lowest-bound (clash log k))
+      go false c = snapshot-fine
+
+  pub conflict-few : {a : Answer} → Conflict transactions log a → AnswerUpto most-steps transactions a
+  conflict-few (conflict {s} h) = shown-few (conflict-edge log) (conflict-ends log formed) s h
+
+  pub version-few : {a : Answer} → Version transactions log a → AnswerUpto most-steps transactions a
+  version-few (version {s} c h) = shown-few (version-edge log) (version-ends log formed (cleanness-clean log c)) s h
+  version-few (version-unclean e) = unclean-upto (fault-few e)
+
+  pub exact-few : {a : Answer} → Exact transactions log a → AnswerUpto most-steps transactions a
+  unfolding serial
+  exact-few (exact {w} f) = order-upto (once-few w (loosely-serial transactions log w (f .one)))
+  exact-few (exact-none c n) = none-fine
+  exact-few (exact-unclean e) = unclean-upto (fault-few e)
+
+  pub next-few : {v : List ℕ} {a : Answer} → Next transactions log v a → AnswerUpto most-steps transactions a
+  unfolding serial later
+  next-few (next {w} f) = order-upto (once-few w (explains-serial transactions log w (and→ (f .one) .0)))
+  next-few (next-none n) = none-fine
