@@ -18,15 +18,24 @@ fn read_text(fd: i32, text: &mut [u8]) -> Got
         let part = &mut text[n..];
         let got = libc::read(fd, part);
         if got < 0 {
-            return Got { bytes: 0, failed: true };
+            return Got {
+                bytes: 0,
+                failed: true,
+            };
         }
         let more = io::count(got, part);
         if more == 0 {
-            return Got { bytes: n, failed: false };
+            return Got {
+                bytes: n,
+                failed: false,
+            };
         }
         n += more;
     }
-    Got { bytes: n, failed: false }
+    Got {
+        bytes: n,
+        failed: false,
+    }
 }
 
 // Reads standard input. Where that fails, standard error has a line.
@@ -63,12 +72,18 @@ pub fn read_named(i: usize, text: &mut [u8]) -> Got
     let n = os::arg(i, &mut name);
     if os::errno() != 0 {
         os::fail(b"a file name");
-        return Got { bytes: 0, failed: true };
+        return Got {
+            bytes: 0,
+            failed: true,
+        };
     }
     let fd = os::open_read(&name[..n]);
     if fd < 0 {
         os::fail(&name[..n]);
-        return Got { bytes: 0, failed: true };
+        return Got {
+            bytes: 0,
+            failed: true,
+        };
     }
     let got = read_file(fd, &name[..n], text);
     libc::close(fd);
