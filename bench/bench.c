@@ -7,7 +7,7 @@
 
 #include "judges.h"
 
-enum { ROUNDS = 5, MOST_ROWS = 32 };
+enum { ROUNDS = 9, MOST_ROWS = 32 };
 static const double shortest = 0.05; /* seconds that a side is run in a round */
 
 static struct workload room;
@@ -20,8 +20,10 @@ struct task {
     int is_listing;
 };
 
+/* What a task costs: ours as a multiple of the peer, and each in microseconds a log. */
+enum { RATIO, PEER, OURS, FIGURES };
 struct cost {
-    double ratio, peer; /* the peer's in microseconds a log */
+    double figure[FIGURES];
 };
 
 /* Processor time, so that other programs count less. */
@@ -68,21 +70,30 @@ static int ascending(const void *a, const void *b)
 /* The two by turns, and the median of the rounds. */
 static struct cost measure(const struct task *t)
 {
-    double ratio[ROUNDS], cost[ROUNDS];
+    double seen[FIGURES][ROUNDS];
+    struct cost c;
+
     memset(&lent, 0, sizeof lent);
     unsigned long our_times = enough(&ours, t), peer_times = enough(&peer, t);
     for (unsigned i = 0; i < ROUNDS; i++) {
-        double our_cost = run(&ours, t, our_times) / (double)our_times;
-        double peer_cost = run(&peer, t, peer_times) / (double)peer_times;
-        ratio[i] = our_cost / peer_cost;
-        cost[i] = 1e6 * peer_cost / t->w->count;
+        seen[OURS][i] = 1e6 * run(&ours, t, our_times) / (double)our_times / t->w->count;
+        seen[PEER][i] = 1e6 * run(&peer, t, peer_times) / (double)peer_times / t->w->count;
+        seen[RATIO][i] = seen[OURS][i] / seen[PEER][i];
     }
-    qsort(ratio, ROUNDS, sizeof *ratio, ascending);
-    qsort(cost, ROUNDS, sizeof *cost, ascending);
-    return (struct cost){ratio[ROUNDS / 2], cost[ROUNDS / 2]};
+    for (unsigned f = 0; f < FIGURES; f++) {
+        qsort(seen[f], ROUNDS, sizeof *seen[f], ascending);
+        c.figure[f] = seen[f][ROUNDS / 2];
+    }
+    return c;
 }
 
-static void print_head(const char *title)
+/* About three digits. */
+static void print_figure(double x)
+{
+    printf(" %.*f |", x < 10 ? 2 : x < 100 ? 1 : 0, x);
+}
+
+static void print_table(const char *title, unsigned figure, const char *const *names, struct cost (*costs)[VERDICTS])
 {
     printf("\n%s\n\n| log |", title);
     for (unsigned v = 0; v < VERDICTS; v++)
@@ -91,9 +102,14 @@ static void print_head(const char *title)
     for (unsigned v = 0; v < VERDICTS; v++)
         printf("---:|");
     printf("\n");
+    for (unsigned i = 0; i < workload_count; i++) {
+        printf("| %s |", names[i]);
+        for (unsigned v = 0; v < VERDICTS; v++)
+            print_figure(costs[i][v].figure[figure]);
+        printf("\n");
+    }
 }
 
-/* Two tables over the same rows. */
 static void print_verdicts(void)
 {
     static struct cost costs[MOST_ROWS][VERDICTS];
@@ -105,31 +121,22 @@ static void print_verdicts(void)
         for (unsigned v = 0; v < VERDICTS; v++)
             costs[i][v] = measure(&(struct task){&room, v, 0});
     }
-    print_head("Ours / peer:");
-    for (unsigned i = 0; i < workload_count; i++) {
-        printf("| %s |", names[i]);
-        for (unsigned v = 0; v < VERDICTS; v++)
-            printf(" %.1f |", costs[i][v].ratio);
-        printf("\n");
-    }
-    print_head("The peer's cost, in microseconds a log:");
-    for (unsigned i = 0; i < workload_count; i++) {
-        printf("| %s |", names[i]);
-        for (unsigned v = 0; v < VERDICTS; v++)
-            printf(" %.2f |", costs[i][v].peer);
-        printf("\n");
-    }
+    print_table("Ours / peer:", RATIO, names, costs);
+    print_table("The peer, in microseconds a log:", PEER, names, costs);
+    print_table("Ours, in microseconds a log:", OURS, names, costs);
 }
 
 static void print_listings(void)
 {
-    printf("\nNext over a whole listing, from the version verdict's order to none:\n\n");
-    printf("| log | orders | ours / peer | peer, microseconds a listing |\n|---|---:|---:|---:|\n");
+    printf("\nNext over a whole listing, from the version verdict's order to none, in microseconds a listing:\n\n");
+    printf("| log | orders | ours / peer | peer | ours |\n|---|---:|---:|---:|---:|\n");
     for (unsigned i = 0; i < listing_count; i++) {
         make_listing(i, &room);
-        unsigned orders = judge_listing(&ours, room.logs, &lent);
+        printf("| %s | %u |", room.name, judge_listing(&ours, room.logs, &lent));
         struct cost c = measure(&(struct task){&room, 0, 1});
-        printf("| %s | %u | %.1f | %.1f |\n", room.name, orders, c.ratio, c.peer);
+        for (unsigned f = 0; f < FIGURES; f++)
+            print_figure(c.figure[f]);
+        printf("\n");
     }
 }
 
