@@ -4,8 +4,6 @@
 #include <stdlib.h>
 #include <string.h>
 
-#include "lent.h"
-
 /* The lines of a file, one ahead. */
 struct words {
     FILE *file;

@@ -5,11 +5,13 @@
 #include <stddef.h>
 #include <stdint.h>
 
-enum { LONGEST_TEXT = 60000, MOST_ORDERS = 64 };
+#include "lent.h"
+
+enum { MOST_ORDERS = 64 };
 
 struct expected {
     char name[512];
-    uint8_t text[LONGEST_TEXT];
+    uint8_t text[MOST_BYTES];
     size_t text_length;
 
     /* The steps, by a reading of the text that is this test's own; only where the text is in form. */

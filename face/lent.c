@@ -3,7 +3,7 @@
 #include <stdio.h>
 #include <string.h>
 
-enum { GUARD = 64, ROOM = 70000 };
+enum { GUARD = 64, ROOM = GUARD + MOST_BYTES + GUARD };
 
 static const size_t right[BUFFERS] = {
     [ORDER] = KRUPOVESH_WITNESS, [WORK] = KRUPOVESH_WORK, [WITNESS] = KRUPOVESH_WITNESS,

@@ -7,6 +7,9 @@
 
 #include "../include/krupovesh.h"
 
+/* No buffer that is lent is longer. */
+enum { MOST_BYTES = 100000 };
+
 enum function { CLEAN, SNAPSHOT, CONFLICT, VERSION, EXACT, NEXT, READ, REPORT, FUNCTIONS };
 enum buffer { LOG, TEXT, ORDER, WORK, WITNESS, STEPS, OUT, BUFFERS };
 
