@@ -7,7 +7,7 @@
 
 #include "judges.h"
 
-enum { ROUNDS = 9, MOST_ROWS = 32 };
+enum { ROUNDS = 7, MOST_ROWS = 32 };
 static const double shortest = 0.05; /* seconds that a side is run in a round */
 
 static struct workload room;
