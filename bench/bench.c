@@ -140,8 +140,28 @@ static void print_listings(void)
     }
 }
 
-int main(void)
+/* For a profiler: ours alone and once, on the logs of one row of the table, or over one listing. */
+static int run_once(const char *verdict, unsigned row)
 {
+    struct task t = {&room, 0, strcmp(verdict, "next") == 0};
+    while (!t.is_listing && t.verdict < VERDICTS && strcmp(verdict, verdict_names[t.verdict]) != 0)
+        t.verdict++;
+    if (t.verdict == VERDICTS || row >= (t.is_listing ? listing_count : workload_count)) {
+        fprintf(stderr, "bench [VERDICT ROW]\n");
+        return 2;
+    }
+    if (t.is_listing)
+        make_listing(row, &room);
+    else
+        make_workload(row, &room);
+    run(&ours, &t, 1);
+    return 0;
+}
+
+int main(int count, char **words)
+{
+    if (count == 3)
+        return run_once(words[1], (unsigned)strtoul(words[2], NULL, 10));
     unsigned bad = disagreements(&room);
     if (bad != 0) {
         fprintf(stderr, "ours and the peer differ %u times; nothing was timed\n", bad);
