@@ -1,0 +1,63 @@
+/* Compares ours with the peer, answers and every byte, before anything is timed. */
+#include <stdio.h>
+#include <string.h>
+
+#include "judges.h"
+
+static struct buffers by_ours, by_peer;
+
+/* Whether the last two calls have answered and left the same. */
+static unsigned differ(const char *where, const char *verdict, uint64_t our_answer, uint64_t peer_answer)
+{
+    if (our_answer == peer_answer && memcmp(&by_ours, &by_peer, sizeof by_ours) == 0)
+        return 0;
+    fprintf(stderr, "%s, %s: ours answers %llx and the peer %llx, %s\n", where, verdict, (unsigned long long)our_answer,
+            (unsigned long long)peer_answer, our_answer == peer_answer ? "the buffers differ" : "which is not the same");
+    return 1;
+}
+
+static unsigned differ_on_log(const char *where, const struct log *l)
+{
+    unsigned bad = 0;
+    for (unsigned v = 0; v < VERDICTS; v++) {
+        memset(&by_ours, 0xa5, sizeof by_ours);
+        memset(&by_peer, 0xa5, sizeof by_peer);
+        uint64_t our_answer = judge_log(&ours, v, l, &by_ours);
+        uint64_t peer_answer = judge_log(&peer, v, l, &by_peer);
+        bad += differ(where, verdict_names[v], our_answer, peer_answer);
+    }
+    return bad;
+}
+
+/* From the peer's first order on: both go on from the same one. */
+static unsigned differ_on_listing(const char *where, const struct log *l)
+{
+    unsigned bad = 0;
+    uint64_t our_answer, peer_answer = judge_log(&peer, 3, l, &by_peer);
+    while (KRUPOVESH_KIND(peer_answer) == KRUPOVESH_ORDER && bad == 0) {
+        memcpy(by_peer.order, by_peer.witness, sizeof by_peer.order);
+        memset(by_peer.work, 0xa5, sizeof by_peer.work);
+        memset(by_peer.witness, 0xa5, sizeof by_peer.witness);
+        by_ours = by_peer;
+        our_answer = judge_next(&ours, l, &by_ours);
+        peer_answer = judge_next(&peer, l, &by_peer);
+        bad = differ(where, "next", our_answer, peer_answer);
+    }
+    return bad;
+}
+
+unsigned disagreements(struct workload *room)
+{
+    unsigned bad = 0;
+    for (unsigned i = 0; i < workload_count; i++) {
+        make_workload(i, room);
+        for (unsigned k = 0; k < room->count; k++)
+            bad += differ_on_log(room->name, &room->logs[k]);
+    }
+    for (unsigned i = 0; i < listing_count; i++) {
+        make_listing(i, room);
+        bad += differ_on_log(room->name, room->logs);
+        bad += differ_on_listing(room->name, room->logs);
+    }
+    return bad;
+}

@@ -1,0 +1,56 @@
+#include "judges.h"
+
+#include <string.h>
+
+#include "peer.h"
+
+typedef uint64_t over_log(const uint16_t *, size_t, uint8_t *, size_t);
+typedef uint64_t with_witness(const uint16_t *, size_t, uint8_t *, size_t, uint16_t *, size_t);
+
+struct judge {
+    over_log *clean, *snapshot;
+    with_witness *conflict, *version, *exact;
+    uint64_t (*next)(const uint16_t *, size_t, const uint16_t *, size_t, uint8_t *, size_t, uint16_t *, size_t);
+    uint64_t (*read)(const uint8_t *, size_t, uint16_t *, size_t);
+    uint64_t (*report)(const uint8_t *, size_t, uint16_t *, size_t, uint8_t *, size_t, uint16_t *, size_t, uint8_t *, size_t);
+};
+
+const struct judge ours = {krupovesh_clean, krupovesh_snapshot, krupovesh_conflict, krupovesh_version,
+                           krupovesh_exact, krupovesh_next,     krupovesh_read,     krupovesh_report};
+const struct judge peer = {peer_clean, peer_snapshot, peer_conflict, peer_version,
+                           peer_exact, peer_next,     peer_read,     peer_report};
+
+const char *const verdict_names[VERDICTS] = {"clean", "snapshot", "conflict", "version", "exact", "read", "report"};
+
+uint64_t judge_log(const struct judge *j, unsigned verdict, const struct log *l, struct buffers *b)
+{
+    switch (verdict) {
+    case 0: return j->clean(l->numbers, l->length, b->work, KRUPOVESH_WORK);
+    case 1: return j->snapshot(l->numbers, l->length, b->work, KRUPOVESH_WORK);
+    case 2: return j->conflict(l->numbers, l->length, b->work, KRUPOVESH_WORK, b->witness, KRUPOVESH_WITNESS);
+    case 3: return j->version(l->numbers, l->length, b->work, KRUPOVESH_WORK, b->witness, KRUPOVESH_WITNESS);
+    case 4: return j->exact(l->numbers, l->length, b->work, KRUPOVESH_WORK, b->witness, KRUPOVESH_WITNESS);
+    case 5: return j->read(l->text, l->text_length, b->steps, KRUPOVESH_STEPS);
+    default:
+        return j->report(l->text, l->text_length, b->steps, KRUPOVESH_STEPS, b->work, KRUPOVESH_WORK,
+                         b->witness, KRUPOVESH_WITNESS, b->out, KRUPOVESH_REPORT);
+    }
+}
+
+uint64_t judge_next(const struct judge *j, const struct log *l, struct buffers *b)
+{
+    return j->next(l->numbers, l->length, b->order, KRUPOVESH_WITNESS, b->work, KRUPOVESH_WORK,
+                   b->witness, KRUPOVESH_WITNESS);
+}
+
+unsigned judge_listing(const struct judge *j, const struct log *l, struct buffers *b)
+{
+    unsigned orders = 0;
+    uint64_t result = j->version(l->numbers, l->length, b->work, KRUPOVESH_WORK, b->witness, KRUPOVESH_WITNESS);
+    while (KRUPOVESH_KIND(result) == KRUPOVESH_ORDER) {
+        orders++;
+        memcpy(b->order, b->witness, sizeof b->order);
+        result = judge_next(j, l, b);
+    }
+    return orders;
+}

@@ -1,0 +1,36 @@
+/* Ours and the peer behind one face, over one set of buffers. */
+#ifndef JUDGES_H
+#define JUDGES_H
+
+#include "../include/krupovesh.h"
+#include "workloads.h"
+
+enum { VERDICTS = 7 };
+extern const char *const verdict_names[VERDICTS];
+
+/* The two judges. */
+struct judge;
+extern const struct judge ours, peer;
+
+/* What is lent to both. */
+struct buffers {
+    uint8_t work[KRUPOVESH_WORK];
+    uint16_t witness[KRUPOVESH_WITNESS];
+    uint16_t order[KRUPOVESH_WITNESS];
+    uint16_t steps[KRUPOVESH_STEPS];
+    uint8_t out[KRUPOVESH_REPORT];
+};
+
+/* One call of one verdict. */
+uint64_t judge_log(const struct judge *j, unsigned verdict, const struct log *l, struct buffers *b);
+
+/* One call of "next" after b->order. */
+uint64_t judge_next(const struct judge *j, const struct log *l, struct buffers *b);
+
+/* The version verdict's order and all that follow; how many there are. */
+unsigned judge_listing(const struct judge *j, const struct log *l, struct buffers *b);
+
+/* agree.c: how many times the two differ on the workloads, in an answer or in any byte. It says where. */
+unsigned disagreements(struct workload *room);
+
+#endif

@@ -1,0 +1,30 @@
+/* A plain C judge with the answers of krupovesh.h, to compare costs with. Written from document 01 alone. */
+#ifndef PEER_H
+#define PEER_H
+
+#include <stddef.h>
+#include <stdint.h>
+
+uint64_t peer_clean(const uint16_t *log, size_t log_length, uint8_t *work, size_t work_length);
+
+uint64_t peer_snapshot(const uint16_t *log, size_t log_length, uint8_t *work, size_t work_length);
+
+uint64_t peer_conflict(const uint16_t *log, size_t log_length, uint8_t *work, size_t work_length,
+                       uint16_t *witness, size_t witness_length);
+
+uint64_t peer_version(const uint16_t *log, size_t log_length, uint8_t *work, size_t work_length,
+                      uint16_t *witness, size_t witness_length);
+
+uint64_t peer_exact(const uint16_t *log, size_t log_length, uint8_t *work, size_t work_length,
+                    uint16_t *witness, size_t witness_length);
+
+uint64_t peer_next(const uint16_t *log, size_t log_length, const uint16_t *order, size_t order_length,
+                   uint8_t *work, size_t work_length, uint16_t *witness, size_t witness_length);
+
+uint64_t peer_read(const uint8_t *text, size_t text_length, uint16_t *steps, size_t steps_length);
+
+uint64_t peer_report(const uint8_t *text, size_t text_length, uint16_t *steps, size_t steps_length,
+                     uint8_t *work, size_t work_length, uint16_t *witness, size_t witness_length,
+                     uint8_t *out, size_t out_length);
+
+#endif

@@ -1,0 +1,164 @@
+#include "expected.h"
+
+#include <stdio.h>
+#include <stdlib.h>
+#include <string.h>
+
+/* The lines of a file, one ahead. */
+struct words {
+    FILE *file;
+    char line[4096];
+    int is_over;
+};
+
+static void stop(const char *what, const char *where)
+{
+    fprintf(stderr, "face: %s: %s\n", what, where);
+    exit(2);
+}
+
+static void step_on(struct words *w)
+{
+    w->is_over = fgets(w->line, sizeof w->line, w->file) == NULL;
+    if (!w->is_over)
+        w->line[strcspn(w->line, "\n")] = 0;
+}
+
+struct words *open_words(const char *path)
+{
+    struct words *w = calloc(1, sizeof *w);
+    if (w == NULL || (w->file = fopen(path, "rb")) == NULL)
+        stop("cannot be read", path);
+    step_on(w);
+    return w;
+}
+
+static const char *value_of(const char *line, const char *key)
+{
+    size_t length = strlen(key);
+    return strncmp(line, key, length) == 0 ? line + length : NULL;
+}
+
+static void load_text(struct expected *e)
+{
+    FILE *f = fopen(e->name, "rb");
+    if (f == NULL)
+        stop("cannot be read", e->name);
+    e->text_length = fread(e->text, 1, sizeof e->text - 1, f);
+    if (!feof(f))
+        stop("is too long for this test", e->name);
+    fclose(f);
+}
+
+/* Reads a text that is in form. */
+static void read_steps(struct expected *e)
+{
+    static const char *const words[] = {"", "begin", "read", "write", "commit", "abort"};
+    const char *at = (const char *)e->text;
+    char word[8];
+    uint8_t is_committed[65536] = {0};
+
+    e->step_count = (size_t)strtoul(at + 6, NULL, 10);
+    for (size_t k = 0; k < e->step_count; k++) {
+        uint16_t *s = e->steps + 4 * k;
+        at = strchr(at, '\n') + 1;
+        if (sscanf(at, "op=%7s tx=%hu obj=%hu from=%hu", word, &s[1], &s[2], &s[3]) != 4)
+            stop("has a line that cannot be read", e->name);
+        for (s[0] = 1; s[0] < 5 && strcmp(word, words[s[0]]) != 0; s[0]++)
+            ;
+        is_committed[s[1]] |= s[0] == 4;
+    }
+    for (unsigned t = 1; t <= 128; t++)
+        if (is_committed[t])
+            e->committed[e->committed_count++] = (uint16_t)t;
+}
+
+/* The members of an order or a cycle; how many. */
+static unsigned members(const char *list, uint16_t *witness)
+{
+    unsigned count = 0;
+    char *end;
+    for (unsigned long t = strtoul(list, &end, 10); end != list; t = strtoul(list, &end, 10)) {
+        witness[count++] = (uint16_t)t;
+        list = end;
+    }
+    return count;
+}
+
+/* The answer that a line's value speaks of. The fault is the clean verdict's answer. */
+static uint64_t answer_of(const struct expected *e, const char *value, uint64_t fault, uint16_t *witness)
+{
+    unsigned k, t;
+    if (strcmp(value, "yes") == 0)
+        return answer(KRUPOVESH_YES, 0, 0);
+    if (strcmp(value, "none") == 0)
+        return answer(KRUPOVESH_NONE, 0, 0);
+    if (strcmp(value, "over") == 0)
+        return answer(KRUPOVESH_REFUSED, 13, (unsigned)e->committed_count);
+    if (sscanf(value, "aborted at %u", &k) == 1)
+        return answer(KRUPOVESH_ABORTED, k, 0);
+    if (sscanf(value, "unfinal at %u", &k) == 1)
+        return answer(KRUPOVESH_UNFINAL, k, 0);
+    if (sscanf(value, "read at %u", &k) == 1)
+        return answer(KRUPOVESH_READ_AT, k, 0);
+    if (sscanf(value, "write at %u with %u", &k, &t) == 2)
+        return answer(KRUPOVESH_WRITE_AT, k, t);
+    if (sscanf(value, "unclean at %u", &k) == 1 && KRUPOVESH_FIRST(fault) == k)
+        return fault;
+    if (value_of(value, "order") != NULL)
+        return answer(KRUPOVESH_ORDER, members(value + 5, witness), 0);
+    if (value_of(value, "cycle") != NULL)
+        return answer(KRUPOVESH_CYCLE, members(value + 5, witness), 0);
+    stop("the report has an unknown line", e->name);
+    return 0;
+}
+
+/* One line of a report. */
+static void note_line(struct expected *e, const char *line)
+{
+    static const char *const keys[] = {"clean=", "snapshot=", "conflict=", "version=", "exact="};
+    unsigned number, place;
+
+    e->report_length += (size_t)snprintf(e->report + e->report_length, sizeof e->report - e->report_length, "%s\n", line);
+    if (sscanf(line, "refused=%u at=%u", &number, &place) == 2) {
+        e->refusal = answer(KRUPOVESH_REFUSED, number, place);
+        e->is_refused = 1;
+        e->is_read = number != 2 && number != 15 && number != 16;
+    }
+    if (e->is_read && e->report_length == strlen(line) + 1)
+        read_steps(e); /* the first line has told that it can be read */
+    for (unsigned i = 0; i < 5; i++) {
+        const char *value = value_of(line, keys[i]);
+        if (value != NULL)
+            e->answers[i] = answer_of(e, value, e->answers[0], e->witness[i]);
+    }
+}
+
+static void note_order(struct expected *e, const char *line)
+{
+    if (strcmp(line, "none") == 0)
+        e->is_whole_list = 1;
+    if (value_of(line, "order") == NULL)
+        return;
+    if (e->order_count == MOST_ORDERS)
+        stop("has more orders than this test keeps", e->name);
+    members(line + 5, e->orders[e->order_count++]);
+}
+
+int next_expected(struct words *reports, struct words *orders, struct expected *e)
+{
+    if (reports->is_over)
+        return 0;
+    memset(e, 0, sizeof *e);
+    const char *name = value_of(reports->line, "file=");
+    if (name == NULL || orders->is_over || strcmp(reports->line, orders->line) != 0)
+        stop("the reports and the orders are not of the same texts", reports->line);
+    snprintf(e->name, sizeof e->name, "%s", name);
+    load_text(e);
+    e->is_read = 1;
+    for (step_on(reports); !reports->is_over && value_of(reports->line, "file=") == NULL; step_on(reports))
+        note_line(e, reports->line);
+    for (step_on(orders); !orders->is_over && value_of(orders->line, "file=") == NULL; step_on(orders))
+        note_order(e, orders->line);
+    return 1;
+}

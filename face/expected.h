@@ -1,0 +1,42 @@
+/* What has to come out for a text, read from what the second program has said of it. */
+#ifndef EXPECTED_H
+#define EXPECTED_H
+
+#include <stddef.h>
+#include <stdint.h>
+
+#include "lent.h"
+
+enum { MOST_ORDERS = 64 };
+
+struct expected {
+    char name[512];
+    uint8_t text[MOST_BYTES];
+    size_t text_length;
+
+    /* The steps, by a reading of the text that is this test's own; only where the text is in form. */
+    uint16_t steps[4096];
+    size_t step_count;
+    uint16_t committed[128]; /* the lowest first */
+    size_t committed_count;
+
+    char report[2048];
+    size_t report_length;
+    uint64_t refusal; /* what turns the text or its log away */
+    int is_refused, is_read; /* whether something does; whether the text is in form */
+
+    /* In the order of the functions: clean, snapshot, conflict, version, exact. */
+    uint64_t answers[5];
+    uint16_t witness[5][128];
+
+    uint16_t orders[MOST_ORDERS][128];
+    size_t order_count;
+    int is_whole_list; /* whether none comes after the last of them */
+};
+
+/* The next text of the two files, which are what `report` and `orders` have said of the same texts. 0 at the end. */
+struct words;
+struct words *open_words(const char *path);
+int next_expected(struct words *reports, struct words *orders, struct expected *e);
+
+#endif

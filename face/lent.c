@@ -1,0 +1,135 @@
+#include "lent.h"
+
+#include <stdio.h>
+#include <string.h>
+
+enum { GUARD = 64, ROOM = GUARD + MOST_BYTES + GUARD };
+
+static const size_t right[BUFFERS] = {
+    [ORDER] = KRUPOVESH_WITNESS, [WORK] = KRUPOVESH_WORK, [WITNESS] = KRUPOVESH_WITNESS,
+    [STEPS] = KRUPOVESH_STEPS, [OUT] = KRUPOVESH_REPORT};
+static const size_t entry_size[BUFFERS] = {
+    [LOG] = 2, [TEXT] = 1, [ORDER] = 2, [WORK] = 1, [WITNESS] = 2, [STEPS] = 2, [OUT] = 1};
+static const char *const function_names[FUNCTIONS] = {
+    "clean", "snapshot", "conflict", "version", "exact", "next", "read", "report"};
+static const char *const buffer_names[BUFFERS] = {"log", "text", "order", "work", "witness", "steps", "out"};
+
+/* The buffers of each function, one bit each. */
+static const unsigned taken[FUNCTIONS] = {
+    [CLEAN] = 1 << LOG | 1 << WORK,
+    [SNAPSHOT] = 1 << LOG | 1 << WORK,
+    [CONFLICT] = 1 << LOG | 1 << WORK | 1 << WITNESS,
+    [VERSION] = 1 << LOG | 1 << WORK | 1 << WITNESS,
+    [EXACT] = 1 << LOG | 1 << WORK | 1 << WITNESS,
+    [NEXT] = 1 << LOG | 1 << ORDER | 1 << WORK | 1 << WITNESS,
+    [READ] = 1 << TEXT | 1 << STEPS,
+    [REPORT] = 1 << TEXT | 1 << STEPS | 1 << WORK | 1 << WITNESS | 1 << OUT};
+
+/* A buffer stands behind its first guard, and its second guard stands behind it. */
+static union {
+    uint8_t bytes[ROOM];
+    uint16_t numbers[ROOM / 2];
+} room[BUFFERS];
+static uint8_t due[BUFFERS][ROOM];
+static size_t length[BUFFERS];
+
+unsigned long calls, agreeing;
+
+int takes(enum function f, enum buffer b)
+{
+    return taken[f] >> b & 1;
+}
+
+size_t right_length(enum buffer b)
+{
+    return right[b];
+}
+
+uint64_t answer(unsigned kind, unsigned first, unsigned second)
+{
+    return (uint64_t)kind | (uint64_t)first << 16 | (uint64_t)second << 32;
+}
+
+/* No byte of it is 0. */
+static void make_dirty(uint8_t *bytes, size_t count)
+{
+    static uint32_t state = 2463534242u;
+    for (size_t i = 0; i < count; i++) {
+        state ^= state << 13;
+        state ^= state >> 17;
+        state ^= state << 5;
+        bytes[i] = (uint8_t)(1 + state % 255);
+    }
+}
+
+void lend(enum buffer b, size_t entries, const void *contents)
+{
+    size_t bytes = entries * entry_size[b];
+    length[b] = entries;
+    make_dirty(room[b].bytes, GUARD + bytes + GUARD);
+    if (contents != NULL)
+        memcpy(room[b].bytes + GUARD, contents, bytes);
+    memcpy(due[b], room[b].bytes, GUARD + bytes + GUARD);
+}
+
+void lend_all(void)
+{
+    for (enum buffer b = ORDER; b < BUFFERS; b++)
+        lend(b, right[b], NULL);
+}
+
+void make_due(enum buffer b, const void *contents, size_t entries)
+{
+    memset(due[b] + GUARD, 0, length[b] * entry_size[b]);
+    if (entries != 0)
+        memcpy(due[b] + GUARD, contents, entries * entry_size[b]);
+}
+
+static uint8_t *bytes_of(enum buffer b)
+{
+    return room[b].bytes + GUARD;
+}
+
+static uint16_t *numbers_of(enum buffer b)
+{
+    return room[b].numbers + GUARD / 2;
+}
+
+static uint64_t call(enum function f)
+{
+    const uint16_t *log = numbers_of(LOG), *order = numbers_of(ORDER);
+    const uint8_t *text = bytes_of(TEXT);
+    uint16_t *witness = numbers_of(WITNESS), *steps = numbers_of(STEPS);
+    uint8_t *work = bytes_of(WORK), *out = bytes_of(OUT);
+
+    switch (f) {
+    case CLEAN: return krupovesh_clean(log, length[LOG], work, length[WORK]);
+    case SNAPSHOT: return krupovesh_snapshot(log, length[LOG], work, length[WORK]);
+    case CONFLICT: return krupovesh_conflict(log, length[LOG], work, length[WORK], witness, length[WITNESS]);
+    case VERSION: return krupovesh_version(log, length[LOG], work, length[WORK], witness, length[WITNESS]);
+    case EXACT: return krupovesh_exact(log, length[LOG], work, length[WORK], witness, length[WITNESS]);
+    case NEXT:
+        return krupovesh_next(log, length[LOG], order, length[ORDER], work, length[WORK], witness, length[WITNESS]);
+    case READ: return krupovesh_read(text, length[TEXT], steps, length[STEPS]);
+    default:
+        return krupovesh_report(text, length[TEXT], steps, length[STEPS], work, length[WORK], witness, length[WITNESS],
+                                out, length[OUT]);
+    }
+}
+
+void try_call(enum function f, uint64_t due_answer, const char *about)
+{
+    uint64_t given = call(f);
+    int agrees = given == due_answer;
+    if (!agrees)
+        printf("%s, %s: answers %llx in place of %llx\n", about, function_names[f], (unsigned long long)given,
+               (unsigned long long)due_answer);
+    for (enum buffer b = 0; b < BUFFERS; b++) {
+        if (takes(f, b) && memcmp(room[b].bytes, due[b], GUARD + length[b] * entry_size[b] + GUARD) != 0) {
+            printf("%s, %s: the buffer %s, or a byte around it, is not as due\n", about, function_names[f], buffer_names[b]);
+            agrees = 0;
+        }
+    }
+    calls++;
+    agreeing += (unsigned long)agrees;
+}

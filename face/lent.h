@@ -1,0 +1,38 @@
+/* Lent buffers with guard bytes around them, calls over them, and what each buffer is due to hold after a call. */
+#ifndef LENT_H
+#define LENT_H
+
+#include <stddef.h>
+#include <stdint.h>
+
+#include "../include/krupovesh.h"
+
+/* No buffer that is lent is longer. */
+enum { MOST_BYTES = 100000 };
+
+enum function { CLEAN, SNAPSHOT, CONFLICT, VERSION, EXACT, NEXT, READ, REPORT, FUNCTIONS };
+enum buffer { LOG, TEXT, ORDER, WORK, WITNESS, STEPS, OUT, BUFFERS };
+
+/* Whether a function takes a buffer; the length a buffer has to have, 0 where any will do. */
+int takes(enum function f, enum buffer b);
+size_t right_length(enum buffer b);
+
+/* Lends a buffer: with the given contents, or dirty where they are NULL. It is due to stay as it is. */
+void lend(enum buffer b, size_t entries, const void *contents);
+
+/* Lends every buffer of right length, dirty. */
+void lend_all(void);
+
+/* The buffer is due to hold these entries, and zeros behind them. */
+void make_due(enum buffer b, const void *contents, size_t entries);
+
+/* An answer, put together from its parts. */
+uint64_t answer(unsigned kind, unsigned first, unsigned second);
+
+/* Calls the function. It agrees where it gives the answer that is due, and leaves in each buffer, and around it, what is due. */
+void try_call(enum function f, uint64_t due_answer, const char *about);
+
+/* How many calls there were, and how many agree. */
+extern unsigned long calls, agreeing;
+
+#endif

@@ -1,0 +1,235 @@
+/* Tests the C face from outside: wrong lengths, logs and texts with what the second program says of them, dirty buffers everywhere.
+ * Called with two files: what `second report` and `second orders` have said of the same texts.
+ * The last line says how many calls agree; the exit status is 0 exactly when all do. */
+#include <stdio.h>
+#include <string.h>
+
+#include "expected.h"
+#include "lent.h"
+
+static struct expected e;
+
+/* Tries a function that has to refuse: every buffer stays as it is. */
+static void try_refusal(enum function f, unsigned number, unsigned place, const char *about)
+{
+    try_call(f, answer(KRUPOVESH_REFUSED, number, place), about);
+}
+
+/* One log and one text, which may be bad: a wrong length of another buffer comes first. */
+static void lend_input(unsigned which)
+{
+    static const uint16_t log[12] = {1, 1, 0, 0, 3, 1, 0, 0, 4, 1, 0, 0};
+    static const char text[] = "steps=0\n";
+    switch (which) {
+    case 0:
+        lend(LOG, 12, log);
+        lend(TEXT, 8, text);
+        break;
+    case 1:
+        lend(LOG, 0, NULL);
+        lend(TEXT, 0, NULL);
+        break;
+    case 2:
+        lend(LOG, 7, NULL);
+        lend(TEXT, 100, NULL);
+        break;
+    default:
+        lend(LOG, 4100, NULL);
+        lend(TEXT, 33804, NULL);
+        break;
+    }
+}
+
+static size_t wrong_length(size_t right, unsigned which)
+{
+    const size_t wrong[4] = {0, right - 1, right + 1, 2 * right};
+    return wrong[which];
+}
+
+/* Number 12: each buffer alone, and all at once. */
+static void try_lengths(enum function f)
+{
+    for (unsigned input = 0; input < 4; input++) {
+        for (unsigned which = 0; which < 4; which++) {
+            for (enum buffer b = ORDER; b < BUFFERS; b++) {
+                if (!takes(f, b))
+                    continue;
+                lend_all();
+                lend_input(input);
+                lend(b, wrong_length(right_length(b), which), NULL);
+                try_refusal(f, 12, 0, "one wrong length");
+            }
+            lend_input(input);
+            for (enum buffer b = ORDER; b < BUFFERS; b++)
+                lend(b, wrong_length(right_length(b), which), NULL);
+            try_refusal(f, 12, 0, "all lengths wrong");
+        }
+    }
+}
+
+/* Numbers 1, 2 and 3, which no text can reach: lengths of the run, and kinds that are none. */
+static void try_runs(enum function f)
+{
+    static const size_t odd[] = {1, 2, 3, 5, 4095, 4097, 4098, 4101};
+    static const size_t long_ones[] = {4100, 4104, 8192};
+    static const uint16_t bad_kinds[] = {0, 6, 256, 65535};
+    uint16_t log[12] = {1, 1, 0, 0, 4, 1, 0, 0, 0, 0, 64, 1};
+
+    lend_all();
+    for (unsigned i = 0; i < sizeof odd / sizeof *odd; i++) {
+        lend(LOG, odd[i], NULL);
+        try_refusal(f, 1, 0, "no multiple of 4");
+    }
+    for (unsigned i = 0; i < sizeof long_ones / sizeof *long_ones; i++) {
+        lend(LOG, long_ones[i], NULL);
+        try_refusal(f, 2, 0, "too many steps");
+    }
+    for (unsigned i = 0; i < sizeof bad_kinds / sizeof *bad_kinds; i++) {
+        log[8] = bad_kinds[i];
+        lend(LOG, 12, log);
+        try_refusal(f, 3, 2, "a kind that is none");
+    }
+}
+
+/* The five verdicts on a log. */
+static void try_verdicts(void)
+{
+    for (enum function f = CLEAN; f <= EXACT; f++) {
+        uint64_t due = e.is_refused ? e.refusal : e.answers[f];
+        lend_all();
+        lend(LOG, 4 * e.step_count, e.steps);
+        if (KRUPOVESH_KIND(due) != KRUPOVESH_REFUSED) {
+            make_due(WORK, NULL, 0);
+            make_due(WITNESS, e.witness[f], KRUPOVESH_WITNESS);
+        }
+        try_call(f, due, e.name);
+    }
+}
+
+/* From each order of the list to the one after it. */
+static void try_listing(void)
+{
+    for (size_t i = 0; i < e.order_count; i++) {
+        int is_last = i + 1 == e.order_count;
+        if (is_last && !e.is_whole_list)
+            return;
+        lend_all();
+        lend(LOG, 4 * e.step_count, e.steps);
+        lend(ORDER, KRUPOVESH_WITNESS, e.orders[i]);
+        make_due(WORK, NULL, 0);
+        if (is_last) {
+            make_due(WITNESS, NULL, 0);
+            try_call(NEXT, answer(KRUPOVESH_NONE, 0, 0), e.name);
+        } else {
+            make_due(WITNESS, e.orders[i + 1], KRUPOVESH_WITNESS);
+            try_call(NEXT, answer(KRUPOVESH_ORDER, (unsigned)e.committed_count, 0), e.name);
+        }
+    }
+}
+
+static int is_listed(const uint16_t *order)
+{
+    for (size_t i = 0; i < e.order_count; i++)
+        if (memcmp(e.orders[i], order, sizeof e.orders[i]) == 0)
+            return 1;
+    return 0;
+}
+
+/* Something that is not on the list. */
+static void try_stranger(const uint16_t *order)
+{
+    lend_all();
+    lend(LOG, 4 * e.step_count, e.steps);
+    lend(ORDER, KRUPOVESH_WITNESS, order);
+    if (e.is_refused)
+        try_call(NEXT, e.refusal, e.name);
+    else
+        try_refusal(NEXT, 14, 0, e.name);
+}
+
+/* What is near to an order, and never one: an entry too few, too many, twice, too large, not committed; and mere dirt. */
+static void try_strangers(void)
+{
+    uint16_t order[128];
+    size_t count = e.committed_count;
+    const uint16_t *first = e.order_count != 0 ? e.orders[0] : e.committed;
+
+    try_stranger(NULL);
+    for (unsigned i = 0; i < 128; i++) {
+        if (i > 2 && i + 1 != count && i != count && i != 127)
+            continue;
+        memcpy(order, first, sizeof order);
+        order[i] = (uint16_t)(order[i] + 128);
+        try_stranger(order);
+        order[i] = i < count ? 0 : 1;
+        try_stranger(order);
+        order[i] = i > 0 && i < count ? first[i - 1] : 129;
+        try_stranger(order);
+    }
+}
+
+/* Two neighbours changed about, where the whole list is known and this is not on it. */
+static void try_swaps(void)
+{
+    uint16_t order[128];
+    for (size_t i = 0; i + 1 < e.committed_count && i < 8; i++) {
+        memcpy(order, e.order_count != 0 ? e.orders[0] : e.committed, sizeof order);
+        uint16_t t = order[i];
+        order[i] = order[i + 1];
+        order[i + 1] = t;
+        if (e.is_whole_list && !is_listed(order))
+            try_stranger(order);
+    }
+    if (e.is_whole_list && !is_listed(e.committed))
+        try_stranger(e.committed);
+}
+
+static void try_read(void)
+{
+    lend_all();
+    lend(TEXT, e.text_length, e.text);
+    if (e.is_read) {
+        make_due(STEPS, e.steps, KRUPOVESH_STEPS);
+        try_call(READ, answer(KRUPOVESH_ACCEPTED, (unsigned)e.step_count, 0), e.name);
+    } else {
+        try_call(READ, e.refusal, e.name);
+    }
+}
+
+static void try_report(void)
+{
+    lend_all();
+    lend(TEXT, e.text_length, e.text);
+    make_due(STEPS, NULL, 0);
+    make_due(WORK, NULL, 0);
+    make_due(WITNESS, NULL, 0);
+    make_due(OUT, e.report, e.report_length);
+    try_call(REPORT, answer(KRUPOVESH_ACCEPTED, (unsigned)e.report_length, 0), e.name);
+}
+
+int main(int count, char **words)
+{
+    unsigned long texts = 0;
+    if (count != 3) {
+        fprintf(stderr, "test REPORTS ORDERS\n");
+        return 2;
+    }
+    struct words *reports = open_words(words[1]), *orders = open_words(words[2]);
+
+    for (enum function f = CLEAN; f < FUNCTIONS; f++)
+        try_lengths(f);
+    for (enum function f = CLEAN; f <= NEXT; f++)
+        try_runs(f);
+    for (; next_expected(reports, orders, &e); texts++) {
+        try_read();
+        try_report();
+        if (!e.is_read)
+            continue;
+        try_verdicts();
+        try_listing();
+        try_strangers();
+        try_swaps();
+    }
+    printf("face: %lu of %lu calls agree, over %lu texts\n", agreeing, calls, texts);
+    return agreeing == calls && texts != 0 ? 0 : 1;
+}
