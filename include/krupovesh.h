@@ -15,7 +15,7 @@
  *     KRUPOVESH_UNFINAL       step of the read         0
  *     KRUPOVESH_YES           0                        0
  *     KRUPOVESH_READ_AT       step of the read         0
- *     KRUPOVESH_WRITE_AT      step of the write        the partner
+ *     KRUPOVESH_WRITE_AT      step of the commit       the partner
  *     KRUPOVESH_ACCEPTED      steps read, or bytes     0
  *                             of the report
  *
