@@ -98,7 +98,7 @@ none-later : {most : ℕ} {log v : List ℕ} → Next most log v none → Never 
 none-later (next-none n) = n
 
 -- what turns a call of `next` away, when its buffers have the right length
-abbrev asks : List ℕ → List ℕ → Refusal
+abbrev pub asks : List ℕ → List ℕ → Refusal
 asks log given = witness-refusal given else-try log-refusal log else-try list-refusal transactions log given
 
 -- A WITNESS THAT HOLDS AN EXPLAINING ORDER

@@ -1,0 +1,43 @@
+-- `print_later` ends: each turn leaves fewer orders to come.
+use native.Mathlib.Omega.{arith}
+use mathlib.Core.Bool.{Bool, true, false, false≢true}
+use mathlib.Core.Path.{_≡_, refl}
+use Prim.Native.Nat.{ℕ, zero, suc, _<_}
+use Rattle.verdict.proofs.Listing.{to-come}
+use Rattle.orders.proofs.print_later.Statement.{statement}
+use Rattle.orders.proofs.print_later.Tie as tie
+
+-- how many turns are left at most
+abbrev left : Bool → ℕ → ℕ
+left true n = suc n
+left false n = zero
+
+fewer : (a b : Bool) {m n : ℕ} → a ≡ true → (b ≡ true → m < n) → left b m < left a n
+fewer true true e h = let k = h refl in omega arith
+fewer true false e h = omega arith
+fewer false b e h = absurd (false≢true e)
+
+abbrev Inv-loop : tie.InvT-loop
+Inv-loop log order₀ more₀ order more = Unit {0}
+
+abbrev μ-loop : tie.MeasureT-loop
+μ-loop log order₀ more₀ order more = left more (to-come log order)
+
+loop-holds : tie.Need-loop-holds Inv-loop μ-loop
+loop-holds c = tt
+
+bring-requires : tie.Need-bring-requires Inv-loop μ-loop
+bring-requires c κs = tt
+
+loop-less : tie.Need-loop-less Inv-loop μ-loop
+loop-less c = fewer (c .before .before .before .loop .more) (c .before .bring .result .more) (c .before .before .loop-test .taken) (c .before .bring .ensures)
+
+loop-again : tie.Need-loop-again Inv-loop μ-loop
+loop-again c = tt
+
+returns : tie.Need-returns Inv-loop μ-loop
+returns c = tt
+
+pub print-later-spec : {M : Type 1} → statement M
+print-later-spec =
+    tie.close (tie.spec Inv-loop μ-loop loop-holds bring-requires loop-less loop-again returns)

@@ -1,0 +1,81 @@
+-- `print_listing` is safe: an order that is shown is within the witness.
+use borrow.Author.Needs.{needs}
+use mathlib.Core.Path.{sym, subst}
+use Prim.Native.Nat.{_≤_}
+use lib.ListN.{length, replicate}
+use lib.Seq.{length-take-le}
+use Rattle.verdict.specs.Limits.{work-bytes, witness-entries}
+use Rattle.verdict.specs.Refusal.{log-refusal}
+use Rattle.verdict.specs.Call.{VersionCall}
+use Rattle.verdict.specs.declared.Answer.{Answer}
+use Rattle.verdict.proofs.Held.{Ordered, call-order}
+use Rattle.orders.proofs.print_listing.Statement.{statement}
+use Rattle.orders.proofs.print_listing.Tie as tie
+
+-- the order that was shown
+within : (c : tie.After-answer2) → c .answer2 .given .0 .0 ≤ length (c .before .before .before .before .before .version .last .1 .1 .0)
+within c =
+    let v = c .before .before .before .before .before .version in
+    let log = c .before .before .before .before .before .before .before .before .before .args .log .now in
+    call-order (log-refusal log) (subst (λ (r : Answer). VersionCall log (replicate work-bytes 0) (replicate witness-entries 0) r (v .last .1 .0) (v .last .1 .1 .0)) (c .answer2 .given .1) (v .ensures)) .room
+
+slice-aggregate-version : tie.Need-slice-aggregate-version
+slice-aggregate-version c = search needs
+
+slice-aggregate-version-2 : tie.Need-slice-aggregate-version-2
+slice-aggregate-version-2 c = search needs
+
+version-requires : tie.Need-version-requires
+version-requires c κs = search needs
+
+enum-known-answer : tie.Need-enum-known-answer
+enum-known-answer c = search needs
+
+print-refused-requires : tie.Need-print-refused-requires
+print-refused-requires c κs = search needs
+
+returns : tie.Need-returns
+returns c = search needs
+
+enum-known-answer-2 : tie.Need-enum-known-answer-2
+enum-known-answer-2 c = search needs
+
+array-share-prefix-witness : tie.Need-array-share-prefix-witness
+array-share-prefix-witness c = within (c .before)
+
+slice-aggregate-print-order : tie.Need-slice-aggregate-print-order
+slice-aggregate-print-order c = sym (length-take-le _ _ (within (c .before .before)))
+
+print-order-requires : tie.Need-print-order-requires
+print-order-requires c κs = search needs
+
+print-later-requires : tie.Need-print-later-requires
+print-later-requires c κs = search needs
+
+slice-aggregate-write-all : tie.Need-slice-aggregate-write-all
+slice-aggregate-write-all c = search needs
+
+write-all-requires : tie.Need-write-all-requires
+write-all-requires c κs = search needs
+
+returns-2 : tie.Need-returns-2
+returns-2 c = search needs
+
+pub print-listing-spec : {M : Type 1} → statement M
+print-listing-spec =
+    tie.close
+    (tie.spec
+    slice-aggregate-version
+    slice-aggregate-version-2
+    version-requires
+    enum-known-answer
+    print-refused-requires
+    returns
+    enum-known-answer-2
+    array-share-prefix-witness
+    slice-aggregate-print-order
+    print-order-requires
+    print-later-requires
+    slice-aggregate-write-all
+    write-all-requires
+    returns-2)
