@@ -2,7 +2,7 @@
 // closed walk is a cycle, and the lowest one is traced along falling distances. The distance 128 stands for none.
 ghost use mathlib.Core.Path.{_≡_};
 ghost use mathlib.Core.Bool.{true};
-ghost use mathlib.Core.List.{List, _∷_};
+ghost use mathlib.Core.List.{List};
 ghost use Prim.Native.Nat.{ℕ, _+_, _≤_, _<_};
 ghost use lib.ListN.{length};
 ghost use Rattle.graph.specs.Tests.{_is_, _below_, _and_, some, lowest};

@@ -1,6 +1,6 @@
 // What is left of a graph: the vertices whose marks stand, and the edges between them.
 ghost use mathlib.Core.Path.{_≡_};
-ghost use Prim.Native.Nat.{ℕ, _≤_};
+ghost use Prim.Native.Nat.{_≤_};
 ghost use lib.ListN.{length};
 ghost use Rattle.graph.specs.Tests.{_upto_, _and_, some, lowest};
 ghost use Rattle.graph.specs.Matrix.{takes-part, joined};

@@ -1,6 +1,6 @@
 // Orders: every vertex that takes part once, keeping every edge.
 ghost use mathlib.Core.Path.{_≡_};
-ghost use Prim.Native.Nat.{ℕ, _+_, _≤_};
+ghost use Prim.Native.Nat.{_+_, _≤_};
 ghost use lib.ListN.{length};
 ghost use Rattle.graph.specs.Tests.{count};
 ghost use Rattle.graph.specs.Lists.{zeros};

@@ -1,7 +1,4 @@
 // Makes 65 graphs, and writes for each its first order or first shortest cycle, and up to four later orders.
-ghost use mathlib.Core.Path.{_≡_};
-ghost use Prim.Native.Nat.{_≤_};
-ghost use lib.ListN.{length};
 
 mod make;
 

@@ -9,7 +9,6 @@ use lib.ListN.{length, getD, take, drop, drop-of-length-le}
 use lib.Seq.{take-at}
 use Rattle.graph.specs.Lists.{zeros, entries}
 use Rattle.verdict.specs.Limits.{most-steps}
-use Rattle.verdict.specs.Log.{steps}
 use Rattle.verdict.specs.Refusal.{Refusal, refused}
 use Rattle.verdict.specs.Call.{turned-away, answered}
 use Rattle.text.specs.Line.{header}

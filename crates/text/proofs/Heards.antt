@@ -15,7 +15,7 @@ use Rattle.verdict.specs.Clean.{Fault, aborted-at, unfinal-at, Cleanness, clean
 use Rattle.verdict.specs.Snapshot.{Snapshot, snapshot, read-at, write-at-with, snapshot-verdict}
 use Rattle.verdict.specs.Answer.{Answer, shown, unclean-by}
 use Rattle.verdict.specs.Said.{said-fault, said-clean, said-snapshot, said, witness}
-use Rattle.verdict.specs.Call.{Call, turned-away, answered, leaves-witness, CleanCall, SnapshotCall, ConflictCall, VersionCall, ExactCall}
+use Rattle.verdict.specs.Call.{turned-away, answered, leaves-witness, CleanCall, SnapshotCall, ConflictCall, VersionCall, ExactCall}
 use Rattle.verdict.specs.declared.CleanAnswer.{CleanAnswer}
 use Rattle.verdict.specs.declared.SnapshotAnswer.{SnapshotAnswer}
 use Rattle.verdict.specs.declared.Answer.{Answer as CodeAnswer}

@@ -4,7 +4,7 @@ use mathlib.Core.List.{List, [], _∷_}
 use mathlib.Core.Option.{some as just}
 use Prim.Native.Nat.{ℕ}
 use native.Mathlib.Omega.{arith}
-use Rattle.verdict.specs.Refusal.{Refusal, taken, refused}
+use Rattle.verdict.specs.Refusal.{Refusal, refused}
 use Rattle.verdict.proofs.WellFormed.{refused≢taken}
 use Rattle.verdict.proofs.Only.{conflict-one, version-one, exact-one, call-one}
 use Rattle.text.specs.Bytes.{bytes}

@@ -2,17 +2,17 @@
 use mathlib.Core.Path.{_≡_, refl, sym, ap, _∙_}
 use mathlib.Core.Bool.{Bool, true, false}
 use mathlib.Core.List.{List}
-use Prim.Native.Nat.{ℕ, suc, _+_, _≤_, _<_}
+use Prim.Native.Nat.{ℕ, _+_, _≤_, _<_}
 use native.Mathlib.Numerals.{add-one}
 use native.Mathlib.Omega.{arith}
-use Rattle.graph.specs.Tests.{_is_, _below_, _upto_, _and_, _or_, fails, if_then_else_, some, lowest}
-use Rattle.graph.proofs.Truth.{not-both, to-true, →and, and-no-left, and-no-right, and-true, →or-left, or-false, →fails, →not-fails, →is, →isnt, if-true, if-false, lowest-none, lowest-some, some-same}
-use Rattle.verdict.specs.Log.{steps, kind, tx, obj, src, reads, writes, committed, aborted}
+use Rattle.graph.specs.Tests.{_is_, _below_, _upto_, _and_, _or_, fails, some, lowest}
+use Rattle.graph.proofs.Truth.{to-true, →and, and-no-left, and-no-right, and-true, →or-left, or-false, →fails, →not-fails, →is, →isnt, if-true, if-false, lowest-none, lowest-some, some-same}
+use Rattle.verdict.specs.Log.{steps, obj, src, writes, committed, aborted}
 use Rattle.verdict.specs.Said.{said-fault, said-clean}
 use Rattle.verdict.specs.declared.Fault as code
 use Rattle.verdict.specs.declared.CleanAnswer.{CleanAnswer}
 use Rattle.verdict.specs.declared.CleanAnswer.the-variants as clean-answer
-use Rattle.verdict.specs.Clean.{Fault, aborted-at, unfinal-at, Cleanness, clean, unclean, judged, judged-other, writes-later, final-source, faulty-read, is-clean, fault-at, cleanness}
+use Rattle.verdict.specs.Clean.{Fault, aborted-at, unfinal-at, Cleanness, clean, unclean, judged-other, writes-later, final-source, faulty-read, is-clean, fault-at, cleanness}
 
 module _ (log : List ℕ) (i : ℕ) where
   pub not-faulty : judged-other log i ≡ false → faulty-read log i ≡ false

@@ -12,7 +12,7 @@ use Rattle.graph.specs.Order.{once-each}
 use Rattle.graph.specs.Shows.{order, cycle}
 use Rattle.graph.proofs.Truth.{and→, →and, →is, →not-fails}
 use Rattle.graph.proofs.Places.{member-head, member-tail, all→}
-use Rattle.verdict.specs.Limits.{transactions, work-bytes, witness-entries}
+use Rattle.verdict.specs.Limits.{transactions, witness-entries}
 use Rattle.verdict.specs.Log.{committed}
 use Rattle.verdict.specs.Refusal.{Refusal, taken, log-refusal}
 use Rattle.verdict.specs.Clean as clean
@@ -20,7 +20,7 @@ use Rattle.verdict.specs.Answer.{Answer, shown, none, unclean-by}
 use Rattle.verdict.specs.Replay.{serial, explains}
 use Rattle.verdict.specs.Next.{up-to-zero, from-zero, list-refusal}
 use Rattle.verdict.specs.Said.{said, witness as witness-of}
-use Rattle.verdict.specs.Call.{Call, turned-away, answered, leaves-witness, WitnessCall}
+use Rattle.verdict.specs.Call.{turned-away, answered, leaves-witness, WitnessCall}
 use Rattle.verdict.specs.declared.Fault.{Fault}
 use Rattle.verdict.specs.declared.Answer.the-variants.{Order, Cycle, Nothing, Unclean}
 use Rattle.verdict.proofs.WellFormed.{else-try→, well-formed}

@@ -16,7 +16,7 @@ use Rattle.graph.specs.Order.{once-each, is-order}
 use Rattle.graph.specs.Cycle.{is-cycle}
 use Rattle.graph.specs.Shows.{order, cycle, shows-order, shows-cycle}
 use Rattle.verdict.specs.Limits.{transactions, work-bytes, witness-entries}
-use Rattle.verdict.specs.Refusal.{Refusal, taken, refused, _else-try_, work-refusal, witness-refusal, log-refusal}
+use Rattle.verdict.specs.Refusal.{Refusal, taken, _else-try_, witness-refusal, log-refusal}
 use Rattle.verdict.specs.Clean.{Fault, is-clean}
 use Rattle.verdict.specs.Answer.{Answer, shown, none, unclean-by}
 use Rattle.verdict.specs.Version.{version-edge, Version, version, version-unclean}
@@ -37,7 +37,7 @@ use Rattle.verdict.proofs.Center.{centre}
 use Rattle.verdict.proofs.Judge.{cleanness-clean, clean-cleanness, version-ends, orders, orders-listed, explains-serial}
 use Rattle.verdict.proofs.Some.{version-some}
 use Rattle.verdict.proofs.Only.{clean≢unclean}
-use Rattle.verdict.proofs.Held.{Ordered, call-order, call-none, call-cycle, call-unclean, read-back, held-length, held-taken}
+use Rattle.verdict.proofs.Held.{call-order, call-none, call-cycle, call-unclean, read-back, held-length, held-taken}
 
 explains→ : (most : ℕ) (log w : List ℕ) → explains most log w ≡ true → (is-clean log ≡ true) × (serial most log w ≡ true)
 unfolding explains explains-loosely

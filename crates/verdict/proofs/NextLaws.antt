@@ -1,24 +1,23 @@
 -- "Next": the explaining orders of a clean log are the orders of its version graph, so the first later one of the graph is the answer.
 use mathlib.Core.Path.{_≡_, refl, sym, ap, subst, fun-ext, _∙_}
-use mathlib.Core.Bool.{Bool, true, false, false≢true}
-use mathlib.Core.Logic.{_⊎_, inl, inr, ⊎-elim}
+use mathlib.Core.Bool.{Bool, true, false}
 use mathlib.Core.List.{List, [], _∷_, _++_, append-nil, append-assoc}
 use mathlib.Core.Option.{Option, none, some as just}
-use Prim.Native.Nat.{ℕ, zero, suc, _+_, _≤_, _<_}
+use Prim.Native.Nat.{ℕ, suc, _+_, _≤_, _<_}
 use native.Mathlib.Omega.{arith}
 use native.Mathlib.Numerals.{add-one}
 use lib.ListN.{length, getD, take, drop, drop-of-length-le}
 use lib.Seq.{drop-cons, take-suc}
-use Rattle.graph.specs.Tests.{_is_, _and_, fails, if_then_else_}
+use Rattle.graph.specs.Tests.{_is_, _and_}
 use Rattle.graph.specs.Lists.{all, zeros, entries}
 use Rattle.graph.specs.First.{Earliest, earliest, not-any, later}
 use Rattle.graph.specs.Order.{is-order}
 use Rattle.graph.specs.Shows.{order}
-use Rattle.graph.specs.Matrix.{takes-part, joined, matrix-order, told-later, later-members, Follows}
-use Rattle.graph.proofs.Truth.{decide, not-both, to-false, same-test, and→, →and, and-true, and-no-left, and-no-right, fails→, →fails, →not-fails, is→, →is, isnt→, →isnt, if-true, if-false}
-use Rattle.verdict.specs.Limits.{transactions, witness-entries, work-bytes}
+use Rattle.graph.specs.Matrix.{matrix-order, told-later, later-members, Follows}
+use Rattle.graph.proofs.Truth.{same-test, and→, →and, and-true, and-no-left, and-no-right, →fails, →not-fails, →is, →isnt, if-true, if-false}
+use Rattle.verdict.specs.Limits.{transactions, work-bytes}
 use Rattle.verdict.specs.Log.{committed}
-use Rattle.verdict.specs.Refusal.{Refusal, taken, refused, _at_when_, log-refusal}
+use Rattle.verdict.specs.Refusal.{taken, refused, _at_when_, log-refusal}
 use Rattle.verdict.specs.Clean.{is-clean}
 use Rattle.verdict.specs.Version.{version-edge}
 use Rattle.verdict.specs.Replay.{serial, explains-loosely, explains}
@@ -26,7 +25,7 @@ use Rattle.verdict.specs.Next.{Next, next, next-none, up-to-zero, from-z
 use Rattle.verdict.specs.Answer as paper
 use Rattle.verdict.specs.Said.{said, witness}
 use Rattle.verdict.specs.Call.{Call, answered, leaves-witness}
-use Rattle.verdict.specs.Walk.{Committed, Matrix, Split, FollowCall}
+use Rattle.verdict.specs.Walk.{Committed, Matrix, Split}
 use Rattle.verdict.specs.declared.Answer.{Answer}
 use Rattle.verdict.specs.declared.Answer.the-variants.{Order, Nothing}
 use Rattle.verdict.specs.declared.Answer.the-variants as the-answer

@@ -1,8 +1,8 @@
 -- The exact search from its beginning to its answer.
 use mathlib.Core.Path.{_≡_, refl, sym, ap, subst, _∙_}
-use mathlib.Core.Bool.{Bool, true, false, false≢true}
+use mathlib.Core.Bool.{true, false, false≢true}
 use mathlib.Core.List.{List, [], _∷_, _++_}
-use Prim.Native.Nat.{ℕ, zero, suc, _+_, _-_, _≤_, _<_}
+use Prim.Native.Nat.{ℕ, suc, _+_, _-_, _≤_, _<_}
 use native.Mathlib.Omega.{arith}
 use lib.ListN.{length, getD, set, take, replicate, getD-replicate}
 use lib.Seq.{length-take-le, take-suc}
@@ -12,13 +12,13 @@ use Rattle.graph.specs.Lists.{member, all, distinct, zeros, entries}
 use Rattle.graph.specs.First.{dictionary, First}
 use Rattle.graph.specs.Shows.{order}
 use Rattle.graph.proofs.Truth.{and-true-right, →fails, count-same}
-use Rattle.verdict.specs.Limits.{transactions, objects, most-searched, witness-entries}
+use Rattle.verdict.specs.Limits.{transactions, most-searched, witness-entries}
 use Rattle.verdict.specs.Log.{committed, committed-count}
 use Rattle.verdict.specs.Refusal.{taken, log-refusal}
-use Rattle.verdict.specs.Clean.{clean, cleanness, is-clean}
+use Rattle.verdict.specs.Clean.{is-clean}
 use Rattle.verdict.specs.Replay.{explains-loosely}
 use Rattle.verdict.specs.Answer as paper
-use Rattle.verdict.specs.Exact.{Exact, exact, exact-none}
+use Rattle.verdict.specs.Exact.{exact, exact-none}
 use Rattle.verdict.specs.Said.{said, witness}
 use Rattle.verdict.specs.Walk.{Marked}
 use Rattle.verdict.specs.Placing.{ran, Placed, Searched, found, missed, Found}

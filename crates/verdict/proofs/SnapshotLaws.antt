@@ -1,18 +1,18 @@
 -- The snapshot verdict: what a read should have found, which writers clash, and the verdict from the lowest of both.
 use mathlib.Core.Path.{_≡_, refl, sym, ap, subst, _∙_}
-use mathlib.Core.Bool.{Bool, true, false}
+use mathlib.Core.Bool.{true, false}
 use mathlib.Core.Logic.{_⊎_, inl, inr, ⊎-elim}
 use mathlib.Core.List.{List}
 use Prim.Native.Nat.{ℕ, suc, _-_, _≤_, _<_}
 use native.Mathlib.Omega.{arith}
 use native.Mathlib.Numerals.{add-one}
 use lib.ListN.{getD, replicate}
-use Rattle.graph.specs.Tests.{_is_, _below_, _and_, _or_, fails, if_then_else_, some, lowest, highest}
-use Rattle.graph.proofs.Truth.{decide, not-both, to-false, to-true, and→, →and, and-true, and-no-left, and-no-right, or→, →or-left, →or-right, or-false, →fails, fails→, →not-fails, →is, is→, →isnt, →below, below→, →not-below, if-true, if-false, some→, →some, none→, →none, some-next, some-skip, lowest-is, lowest-none, lowest-at, lowest-passes, lowest-bound, lowest-left, lowest-right, below-lowest, highest-yes, highest-no}
+use Rattle.graph.specs.Tests.{_is_, _below_, _and_, _or_, fails, some, lowest}
+use Rattle.graph.proofs.Truth.{decide, not-both, to-false, and→, →and, and-true, and-no-left, and-no-right, or→, →or-left, →or-right, →is, is→, →isnt, →below, →not-below, if-true, if-false, some→, →some, none→, some-skip, lowest-is, lowest-none, lowest-at, lowest-passes, lowest-bound, lowest-left, lowest-right, below-lowest, highest-yes, highest-no}
 use Rattle.verdict.specs.Limits.{transactions, objects}
 use Rattle.verdict.specs.Log.{steps, kind, tx, obj, src, begins, writes, committed, commits, writer, write-one-object, begin-step, commit-step, commits-writer}
 use Rattle.verdict.specs.Clean.{judged-other}
-use Rattle.verdict.specs.Snapshot.{Snapshot, snapshot, read-at, write-at-with, snapshot-step, last-committed, wrong-read, overlap, clash, wrong-commit, wrong-step, snapshot-fault, snapshot-verdict}
+use Rattle.verdict.specs.Snapshot.{snapshot, read-at, write-at-with, snapshot-step, last-committed, wrong-read, overlap, clash, wrong-commit, wrong-step, snapshot-fault, snapshot-verdict}
 use Rattle.verdict.specs.Walk.{does, FirstSteps, Marked, partner, FirstClash}
 use Rattle.verdict.proofs.WellFormed.{Well}
 use Rattle.verdict.proofs.Judged.{other-kind}

@@ -9,7 +9,7 @@ use lib.Seq.{length-take-le}
 use Rattle.verdict.specs.Call.{NextCall}
 use Rattle.verdict.specs.declared.Answer.{Answer}
 use Rattle.verdict.specs.declared.Answer.the-variants.{Order}
-use Rattle.verdict.proofs.Held.{Ordered, call-order}
+use Rattle.verdict.proofs.Held.{call-order}
 use Rattle.verdict.proofs.Listing.{asks, to-come, fewer-to-come}
 use Rattle.orders.proofs.bring.Statement.{statement}
 use Rattle.orders.proofs.bring.Tie as tie

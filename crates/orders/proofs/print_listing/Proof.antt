@@ -8,7 +8,7 @@ use Rattle.verdict.specs.Limits.{work-bytes, witness-entries}
 use Rattle.verdict.specs.Refusal.{log-refusal}
 use Rattle.verdict.specs.Call.{VersionCall}
 use Rattle.verdict.specs.declared.Answer.{Answer}
-use Rattle.verdict.proofs.Held.{Ordered, call-order}
+use Rattle.verdict.proofs.Held.{call-order}
 use Rattle.orders.proofs.print_listing.Statement.{statement}
 use Rattle.orders.proofs.print_listing.Tie as tie
 

@@ -1,6 +1,5 @@
 -- `print_order` is safe and ends: it goes over the members.
 use borrow.Author.Needs.{needs}
-use native.Mathlib.Omega.{arith}
 use Prim.Native.Nat.{_-_}
 use lib.ListN.{length}
 use Rattle.orders.proofs.print_order.Statement.{statement}

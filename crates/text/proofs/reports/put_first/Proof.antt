@@ -5,7 +5,6 @@ use mathlib.Core.Path.{_≡_, sym, _∙_}
 use mathlib.Core.List.{List}
 use mathlib.Core.Option.{some as just}
 use Prim.Native.Nat.{ℕ}
-use lib.ListN.{length}
 use Rattle.verdict.specs.Limits.{transactions}
 use Rattle.verdict.specs.Log.{steps, committed-count}
 use Rattle.verdict.specs.Clean.{cleanness}
