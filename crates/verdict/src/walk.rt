@@ -18,21 +18,39 @@ pub fn index(x: u16) -> usize
     x as usize
 }
 
-// Whether t has a step of kind k among the first so many steps.
-pub fn seen(log: &[u16], n: usize, k: u16, t: u16) -> bool
+// The first step of kind k by t among the first n steps, or n where there is none.
+fn first_before(log: &[u16], n: usize, k: u16, t: u16) -> usize
     requires { ⌜ 4 * n ≤ length (now log) ⌝ }
-    ensures { λ r. ⌜ r ≡ some n (does (now (log .entry)) k t) ⌝ }
+    ensures { λ r. ⌜ r ≡ lowest n (does (now (log .entry)) k t) ⌝ }
 {
     let mut i = 0;
     while i < n {
         if log[4 * i] == k {
             if log[4 * i + 1] == t {
-                return true;
+                return i;
             }
         }
         i += 1;
     }
+    n
+}
+
+// Whether t has a step of kind k among the first n steps.
+pub fn seen(log: &[u16], n: usize, k: u16, t: u16) -> bool
+    requires { ⌜ 4 * n ≤ length (now log) ⌝ }
+    ensures { λ r. ⌜ r ≡ some n (does (now (log .entry)) k t) ⌝ }
+{
+    if first_before(log, n, k, t) < n {
+        return true;
+    }
     false
+}
+
+// The first step of kind k by t, or the number of steps where there is none.
+pub fn first_step(log: &[u16], k: u16, t: u16) -> usize
+    ensures { λ r. ⌜ r ≡ lowest (steps (now (log .entry))) (does (now (log .entry)) k t) ⌝ }
+{
+    first_before(log, log.len() / 4, k, t)
 }
 
 // Whether t writes x in a step of these: `from` is the first of them, and `to` is behind the last.
@@ -79,23 +97,6 @@ pub fn committed(log: &[u16]) -> usize
         i += 1;
     }
     total
-}
-
-// The first step of kind k by t, or the number of steps where there is none.
-pub fn first_step(log: &[u16], k: u16, t: u16) -> usize
-    ensures { λ r. ⌜ r ≡ lowest (steps (now (log .entry))) (does (now (log .entry)) k t) ⌝ }
-{
-    let n = log.len() / 4;
-    let mut i = 0;
-    while i < n {
-        if log[4 * i] == k {
-            if log[4 * i + 1] == t {
-                return i;
-            }
-        }
-        i += 1;
-    }
-    i
 }
 
 // For each transaction, its first step of kind k.

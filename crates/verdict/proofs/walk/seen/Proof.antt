@@ -1,82 +1,24 @@
-use mathlib.Core.Path.{_≡_, refl, sym}
-use mathlib.Core.Bool.{false}
-use mathlib.Core.Logic.{⊎-elim}
-use Prim.Native.Nat.{_-_, _*_, _≤_}
+-- `seen` meets its contract: a step is seen exactly when the first one is among them.
+use borrow.Author.Needs.{needs}
 use native.Mathlib.Omega.{arith}
-use lib.ListN.{length}
-use Rattle.graph.specs.Tests.{some}
-use Rattle.verdict.specs.Log.{kind, tx}
+use mathlib.Core.Path.{sym}
 use Rattle.verdict.specs.Walk.{does}
-use Rattle.graph.proofs.Truth.{→and, and-no-left, and-no-right, →is, →isnt, →some, none-next}
+use Rattle.graph.proofs.Truth.{lowest-passes, lowest-some}
 use Rattle.verdict.proofs.walk.seen.Statement.{statement}
 use Rattle.verdict.proofs.walk.seen.Tie as tie
 
-abbrev Inv-loop : tie.InvT-loop
-Inv-loop log n k t i₀ i = (i ≤ n) × (4 * n ≤ length log) × (some i (does log k t) ≡ false)
+first-before-requires : tie.Need-first-before-requires
+first-before-requires c κs = search needs
 
-abbrev μ-loop : tie.MeasureT-loop
-μ-loop log n k t i₀ i = n - i
+returns : tie.Need-returns
+returns c =
+    let a = c .before .before .before .args in
+    sym (lowest-passes (does (a .log .now) (a .k) (a .t)) (omega (arith, c .before .first-before .ensures, c .if1 .taken)))
 
-loop-holds : tie.Need-loop-holds Inv-loop μ-loop
-unfolding some
-loop-holds c = (omega arith, c .pre, refl)
-
-mul-if1 : tie.Need-mul-if1 Inv-loop μ-loop
-mul-if1 c = omega arith
-
-mul-if1-2 : tie.Need-mul-if1-2 Inv-loop μ-loop
-mul-if1-2 c = omega arith
-
-shared-slice-read-if1 : tie.Need-shared-slice-read-if1 Inv-loop μ-loop
-shared-slice-read-if1 c = omega arith
-
-mul-if2 : tie.Need-mul-if2 Inv-loop μ-loop
-mul-if2 c = omega arith
-
-add-if2 : tie.Need-add-if2 Inv-loop μ-loop
-add-if2 c = omega arith
-
-mul-if2-2 : tie.Need-mul-if2-2 Inv-loop μ-loop
-mul-if2-2 c = omega arith
-
-shared-slice-read-if2 : tie.Need-shared-slice-read-if2 Inv-loop μ-loop
-shared-slice-read-if2 c = omega arith
-
-returns : tie.Need-returns Inv-loop μ-loop
-unfolding does kind tx
-returns c = sym (→some _ (c .before .before .before .before .before .loop .i) (omega arith) (→and (→is (c .before .before .if1 .taken)) (→is (c .if2 .taken))))
-
-add-i : tie.Need-add-i Inv-loop μ-loop
-add-i c = omega arith
-
-loop-less : tie.Need-loop-less Inv-loop μ-loop
-loop-less c = omega arith
-
-loop-again : tie.Need-loop-again Inv-loop μ-loop
-unfolding does kind tx
-loop-again c =
-    let at = c .before .before .before in
-    (omega arith, at .loop .inv .1, none-next _ _ (at .loop .inv .2) (⊎-elim (λ w. and-no-right _ (→isnt (w .2 .left))) (λ w. and-no-left _ (→isnt (w .left))) (c .if1 .came)))
-
-returns-2 : tie.Need-returns-2 Inv-loop μ-loop
-returns-2 c = let e : c .before .loop .i ≡ c .before .before .args .n = omega arith in sym (rw e at (c .before .loop .inv .2))
+returns-2 : tie.Need-returns-2
+returns-2 c =
+    let a = c .before .before .before .args in
+    sym (lowest-some (does (a .log .now) (a .k) (a .t)) (omega (arith, c .before .first-before .ensures, c .if1 .left)))
 
 pub seen-spec : {M : Type 1} → statement M
-seen-spec =
-    tie.close
-    (tie.spec
-    Inv-loop
-    μ-loop
-    loop-holds
-    mul-if1
-    mul-if1-2
-    shared-slice-read-if1
-    mul-if2
-    add-if2
-    mul-if2-2
-    shared-slice-read-if2
-    returns
-    add-i
-    loop-less
-    loop-again
-    returns-2)
+seen-spec = tie.close (tie.spec first-before-requires returns returns-2)
