@@ -1,6 +1,6 @@
 -- How long the lines of a report are: every report has room in its buffer. And how large the values of the calls are.
 use mathlib.Core.Path.{_≡_, refl, ap, _∙_}
-use mathlib.Core.Bool.{Bool, true, false}
+use mathlib.Core.Bool.{true, false}
 use mathlib.Core.List.{List, [], _∷_, _++_}
 use mathlib.Core.Logic.{_⊎_, inl, inr}
 use mathlib.Core.Option.{Option, none, some as just}
@@ -8,26 +8,20 @@ use Prim.Native.Nat.{ℕ, suc, _+_, _*_, _/_, _≤_, _<_}
 use native.Mathlib.Omega.{arith}
 use lib.ListN.{length, length-append}
 use Rattle.graph.specs.Tests.{_below_}
-use Rattle.graph.specs.Lists.{member, all}
-use Rattle.graph.specs.Order.{once-each, is-order}
-use Rattle.graph.specs.Cycle.{is-cycle}
-use Rattle.graph.specs.Shows.{Shown, order, cycle, Shows, shows-order, shows-cycle}
-use Rattle.graph.proofs.Truth.{decide, and→, below→, not-below→}
-use Rattle.graph.proofs.Places.{member-head, member-tail, all→}
-use Rattle.graph.proofs.Judge.{nodes, there-node, once-over, cycle-over}
+use Rattle.graph.specs.Lists.{member}
+use Rattle.graph.specs.Shows.{order, cycle}
+use Rattle.graph.proofs.Truth.{decide, below→, not-below→}
+use Rattle.graph.proofs.Places.{member-head, member-tail}
 use Rattle.verdict.specs.Limits.{transactions, most-steps}
-use Rattle.verdict.specs.Log.{steps, committed, committed-count}
+use Rattle.verdict.specs.Log.{steps, committed-count}
 use Rattle.verdict.specs.Refusal.{taken, refused, log-refusal}
 use Rattle.verdict.specs.Clean.{Fault, aborted-at, unfinal-at, Cleanness, clean, unclean, cleanness}
 use Rattle.verdict.specs.Snapshot.{Snapshot, snapshot, read-at, write-at-with, snapshot-verdict}
 use Rattle.verdict.specs.Answer.{Answer, shown, unclean-by}
-use Rattle.verdict.specs.Conflict.{conflict-edge, conflict}
-use Rattle.verdict.specs.Version.{version-edge, version, version-unclean}
-use Rattle.verdict.specs.Replay.{serial}
-use Rattle.verdict.specs.Exact.{Exact, exact, exact-none, exact-unclean}
-use Rattle.verdict.proofs.WellFormed.{well-formed}
-use Rattle.verdict.proofs.Judge.{cleanness-clean, loosely-serial, conflict-ends, version-ends}
-use Rattle.verdict.proofs.Bounds.{Within, within-when, log-within, FaultUpto, aborted-upto, unfinal-upto, SnapshotUpto, snapshot-fine, read-upto, write-upto, few-steps, few-committed, once-few, cycle-few, fault-few, snapshot-few}
+use Rattle.verdict.specs.Conflict.{conflict}
+use Rattle.verdict.specs.Version.{version}
+use Rattle.verdict.specs.Exact.{exact}
+use Rattle.verdict.proofs.Bounds.{Within, within-when, log-within, FaultUpto, aborted-upto, unfinal-upto, SnapshotUpto, snapshot-fine, read-upto, write-upto, MembersUpto, AnswerUpto, order-upto, cycle-upto, none-fine, unclean-upto, few-steps, few-committed, fault-few, snapshot-few, conflict-few, version-few, exact-few}
 use Rattle.text.specs.Bytes.{bytes, blank, line-end}
 use Rattle.text.specs.Decimal.{decimal}
 use Rattle.text.specs.Line.{item, header}
@@ -93,10 +87,6 @@ numbers-length (t ∷ w) f =
     let c : length (decimal t ++ numbers w) ≡ length (decimal t) + length (numbers w) = length-append (decimal t) (numbers w) in
     omega arith
 
--- of a list over the nodes of a graph
-over-nodes : (n : ℕ) (node : ℕ → Bool) (w : List ℕ) → n ≤ 1000 → all (λ t. member t (nodes n node)) w ≡ true → length (numbers w) ≤ 4 * length w
-over-nodes n node w h o = numbers-length w (λ t m. let r = there-node n node t (all→ _ w o t m) .0 in omega arith)
-
 -- THE LINE OF A VERDICT WITH A WITNESS
 -- what stands behind the key
 abbrev most-value : ℕ
@@ -117,51 +107,29 @@ unfolding value bytes fault-step
 unclean-length (aborted-at k) (aborted-upto h) = omega (arith, four-digits k (omega arith))
 unclean-length (unfinal-at k) (unfinal-upto h) = omega (arith, four-digits k (omega arith))
 
+members-length : (w : List ℕ) → MembersUpto transactions w → length (numbers w) ≤ 4 * transactions
+members-length w h = omega (arith, numbers-length w (λ t m. omega (arith, h .each t m)), h .few)
+
+value-length : (a : Answer) → AnswerUpto most-steps transactions a → length (value (just a)) ≤ most-value
+unfolding value bytes
+value-length (shown (order w)) (order-upto h) = omega (arith, members-length w h)
+value-length (shown (cycle c)) (cycle-upto h) = omega (arith, members-length c h)
+value-length Answer.none none-fine = omega arith
+value-length (unclean-by f) (unclean-upto h) = unclean-length f h
+
 module _ (log : List ℕ) (well : log-refusal log ≡ taken) where
-  -- an order or a cycle
-  once-long : (w : List ℕ) → once-each (suc transactions) (committed log) w ≡ true → length (numbers w) ≤ 516
-  once-long w h =
-      omega (
-        arith,
-        over-nodes (suc transactions) (committed log) w (omega arith) (once-over (suc transactions) (committed log) w h),
-        once-few log well w h,
-      )
-
-  cycle-long : (edge : ℕ → ℕ → Bool) → ((a b : ℕ) → edge a b ≡ true → (a < suc transactions) × (committed log a ≡ true)) → (c : List ℕ) → is-cycle edge c ≡ true
-      → length (numbers c) ≤ 516
-  cycle-long edge ends c h =
-      omega (
-        arith,
-        over-nodes (suc transactions) (committed log) c (omega arith) (cycle-over (suc transactions) (committed log) edge ends c h),
-        cycle-few log well edge ends c h,
-      )
-
-  shown-length : (edge : ℕ → ℕ → Bool) → ((a b : ℕ) → edge a b ≡ true → (a < suc transactions) × (committed log a ≡ true)) → (s : Shown)
-      → Shows (suc transactions) (committed log) edge s → length (value (just (shown s))) ≤ most-value
-  unfolding value bytes is-order
-  shown-length edge ends (order w) (shows-order n f) = omega (arith, once-long w (and→ (f .one) .0))
-  shown-length edge ends (cycle c) (shows-cycle f) = omega (arith, cycle-long edge ends c (f .one))
-
   pub conflict-fits : {w : List ℕ} → ConflictLine log w → length w ≤ most-long
   unfolding bytes
-  conflict-fits (conflict-line (conflict {s} h)) = answer-length (bytes "conflict=") (just (shown s)) (omega arith) (shown-length (conflict-edge log) (conflict-ends log (well-formed log well)) s h)
+  conflict-fits (conflict-line {a} h) = answer-length (bytes "conflict=") (just a) (omega arith) (value-length a (conflict-few log well h))
 
   pub version-fits : {w : List ℕ} → VersionLine log w → length w ≤ most-long
   unfolding bytes
-  version-fits (version-line (version {s} c h)) =
-      answer-length (bytes "version=") (just (shown s)) (omega arith) (shown-length (version-edge log) (version-ends log (well-formed log well) (cleanness-clean log c)) s h)
-  version-fits (version-line (version-unclean {f} e)) = answer-length (bytes "version=") (just (unclean-by f)) (omega arith) (unclean-length f (fault-few log well e))
-
-  exact-value : (a : Answer) → Exact transactions log a → length (value (just a)) ≤ most-value
-  unfolding value bytes serial
-  exact-value (shown (order w)) (exact f) = omega (arith, once-long w (loosely-serial transactions log w (f .one)))
-  exact-value Answer.none (exact-none c n) = omega arith
-  exact-value (unclean-by f) (exact-unclean e) = unclean-length f (fault-few log well e)
+  version-fits (version-line {a} h) = answer-length (bytes "version=") (just a) (omega arith) (value-length a (version-few log well h))
 
   pub exact-fits : {w : List ℕ} → ExactLine log w → length w ≤ most-long
   unfolding value bytes
   exact-fits (over-line n e) = answer-length (bytes "exact=") none (omega arith) (omega arith)
-  exact-fits (exact-line {a} e x) = answer-length (bytes "exact=") (just a) (omega arith) (exact-value a x)
+  exact-fits (exact-line {a} e h) = answer-length (bytes "exact=") (just a) (omega arith) (value-length a (exact-few log well h))
 
   -- THE LINES BEFORE THEM
   pub steps-fits : length (header (steps log)) ≤ most-short

@@ -7,12 +7,14 @@ use Prim.Native.Nat.{ℕ, zero, suc, _≤_, _<_}
 use native.Mathlib.Omega.{arith}
 use lib.ListN.{length}
 use Rattle.graph.specs.Tests.{if_then_else_, some, count, lowest}
+use Rattle.graph.specs.Lists.{member, all}
 use Rattle.graph.specs.First.{later}
 use Rattle.graph.specs.Order.{once-each, is-order}
 use Rattle.graph.specs.Cycle.{is-cycle}
 use Rattle.graph.specs.Shows.{Shown, order, cycle, Shows, shows-order, shows-cycle}
 use Rattle.graph.proofs.Truth.{decide, to-false, and→, not-below→, if-true, if-false, lowest-bound, count-above}
-use Rattle.graph.proofs.Judge.{nodes-length, once-length, cycle-length}
+use Rattle.graph.proofs.Places.{all→}
+use Rattle.graph.proofs.Judge.{nodes, nodes-length, there-node, once-over, once-length, cycle-over, cycle-length}
 use Rattle.verdict.specs.Limits.{transactions, most-steps}
 use Rattle.verdict.specs.Log.{steps, committed, committed-count, aborted, src}
 use Rattle.verdict.specs.Refusal.{Refusal, taken, refused, _at_when_, _else-try_, tried, range-refusal, life-refusal, source-refusal, step-refusal, open-refusal, log-refusal, search-refusal, work-refusal, witness-refusal}
@@ -91,10 +93,15 @@ pub data SnapshotUpto (n m : ℕ) : Snapshot → Type 0 where
   read-upto : {k : ℕ} → k ≤ n → SnapshotUpto n m (read-at k)
   write-upto : {k t : ℕ} → k ≤ n → t ≤ m → SnapshotUpto n m (write-at-with k t)
 
--- an order or a cycle of at most m members, or a fault at a step up to n
+-- at most m members, each up to m
+pub record MembersUpto (m : ℕ) (w : List ℕ) : Type 0 where
+  pub few : length w ≤ m
+  pub each : (t : ℕ) → member t w ≡ true → t ≤ m
+
+-- an order or a cycle of at most m members, each up to m, or a fault at a step up to n
 pub data AnswerUpto (n m : ℕ) : Answer → Type 0 where
-  order-upto : {w : List ℕ} → length w ≤ m → AnswerUpto n m (shown (order w))
-  cycle-upto : {c : List ℕ} → length c ≤ m → AnswerUpto n m (shown (cycle c))
+  order-upto : {w : List ℕ} → MembersUpto m w → AnswerUpto n m (shown (order w))
+  cycle-upto : {c : List ℕ} → MembersUpto m c → AnswerUpto n m (shown (cycle c))
   none-fine : AnswerUpto n m none
   unclean-upto : {f : Fault} → FaultUpto n f → AnswerUpto n m (unclean-by f)
 
@@ -129,14 +136,21 @@ module _ (log : List ℕ) (well : log-refusal log ≡ taken) where
   few-nodes : count (suc transactions) (committed log) ≤ transactions
   few-nodes = count-above transactions (committed log) (to-false _ (λ h. let r = committed-range log formed 0 h .0 in omega arith))
 
-  -- an order, and a cycle
-  pub once-few : (w : List ℕ) → once-each (suc transactions) (committed log) w ≡ true → length w ≤ transactions
-  once-few w h = omega (arith, once-length (suc transactions) (committed log) w h, nodes-length (suc transactions) (committed log), few-nodes)
+  -- what has only nodes for members
+  nodes-upto : (w : List ℕ) → all (λ t. member t (nodes (suc transactions) (committed log))) w ≡ true → length w ≤ length (nodes (suc transactions) (committed log)) → MembersUpto transactions w
+  nodes-upto w o h =
+      record {
+        few = omega (arith, nodes-length (suc transactions) (committed log), few-nodes);
+        each = λ t m. let r = there-node (suc transactions) (committed log) t (all→ _ w o t m) .0 in omega arith;
+      }
 
-  pub cycle-few : (edge : ℕ → ℕ → Bool) → ((a b : ℕ) → edge a b ≡ true → (a < suc transactions) × (committed log a ≡ true)) → (c : List ℕ) → is-cycle edge c ≡ true
-      → length c ≤ transactions
-  cycle-few edge ends c h =
-      omega (arith, cycle-length (suc transactions) (committed log) edge ends c h, nodes-length (suc transactions) (committed log), few-nodes)
+  -- an order, and a cycle
+  pub once-few : (w : List ℕ) → once-each (suc transactions) (committed log) w ≡ true → MembersUpto transactions w
+  once-few w h = nodes-upto w (once-over (suc transactions) (committed log) w h) (omega (arith, once-length (suc transactions) (committed log) w h))
+
+  cycle-few : (edge : ℕ → ℕ → Bool) → ((a b : ℕ) → edge a b ≡ true → (a < suc transactions) × (committed log a ≡ true)) → (c : List ℕ) → is-cycle edge c ≡ true
+      → MembersUpto transactions c
+  cycle-few edge ends c h = nodes-upto c (cycle-over (suc transactions) (committed log) edge ends c h) (omega (arith, cycle-length (suc transactions) (committed log) edge ends c h))
 
   shown-few : (edge : ℕ → ℕ → Bool) → ((a b : ℕ) → edge a b ≡ true → (a < suc transactions) × (committed log a ≡ true)) → (s : Shown)
       → Shows (suc transactions) (committed log) edge s → AnswerUpto most-steps transactions (shown s)

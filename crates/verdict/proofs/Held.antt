@@ -72,7 +72,7 @@ module _ (log : List ℕ) (well : log-refusal log ≡ taken) (w : List ℕ) (h :
       let z = zeros (witness-entries - length w) in
       let e : length (w ++ z) ≡ length w + length z = length-append w z in
       let f : length z ≡ witness-entries - length w = length-replicate (witness-entries - length w) 0 in
-      omega (arith, once-few log well w once)
+      omega (arith, once-few log well w once .few)
 
   -- 14 does not turn it away
   pub held-taken : list-refusal transactions log (entries witness-entries w) ≡ taken
