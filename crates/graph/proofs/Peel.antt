@@ -9,7 +9,7 @@ use Rattle.graph.specs.Tests.{_is_, _below_, _and_, fails, some, count, 
 use Rattle.graph.specs.Lists.{member, all, distinct, before}
 use Rattle.graph.specs.Order.{once-each, keeps, is-order}
 use Rattle.graph.specs.Steps.{free, without, apart}
-use Rattle.graph.proofs.Truth.{decide, not-both, to-false, same-test, and→, →and, →fails, fails→, →implies, implies→, is→, isnt→, →isnt, below→, →below, not-below→, if-true, if-false, none→, →none, every→, →every}
+use Rattle.graph.proofs.Truth.{decide, not-both, to-false, same-test, and→, →and, →fails, fails→, →implies, implies→, is→, isnt→, →isnt, below→, →below, not-below→, if-true, if-false, none→, →none, every→, →every, count-same}
 use Rattle.graph.proofs.Places.{member→, all→, →all, member-head, member-tail, distinct→, before→, before-head, before-tail, none-before-head}
 
 pub record Free (n : ℕ) (node : ℕ → Bool) (edge : ℕ → ℕ → Bool) (b : ℕ) : Type 0 where
@@ -118,11 +118,6 @@ module _ (n : ℕ) (node : ℕ → Bool) (edge : ℕ → ℕ → Bool) (ends : (
       (λ h. →order n node edge [] (record { different = refl; only = λ t m. absurd (false≢true m); whole = λ t l k. absurd (not-both k (none→ _ (fails→ h) t l)); kept = λ a b m. absurd (false≢true m) }))
 
 -- there is one node less without one
-pub count-same : (n : ℕ) (p q : ℕ → Bool) → ((i : ℕ) → i < n → p i ≡ q i) → count n p ≡ count n q
-unfolding count
-count-same zero p q f = refl
-count-same (suc n) p q f = rw (f n (omega arith), count-same n p q (λ i h. f i (omega arith))) refl
-
 one-more : (x : Bool) (k : ℕ) → (if x then suc (suc k) else suc k) ≡ suc (if x then suc k else k)
 unfolding if_then_else_
 one-more true k = refl

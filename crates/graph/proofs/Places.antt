@@ -2,7 +2,7 @@
 use mathlib.Core.Path.{_≡_, refl, sym, _∙_}
 use mathlib.Core.Bool.{Bool, true, false, false≢true}
 use mathlib.Core.Logic.{_⊎_, inl, inr, ⊎-elim}
-use mathlib.Core.List.{List, [], _∷_}
+use mathlib.Core.List.{List, [], _∷_, _++_}
 use Prim.Native.Nat.{ℕ}
 use Rattle.graph.specs.Tests.{_is_, _and_}
 use Rattle.graph.specs.Lists.{member, all, distinct, before}
@@ -19,6 +19,21 @@ member-tail a t w h = →or-right (a is t) h
 pub member→ : (a t : ℕ) (w : List ℕ) → member a (t ∷ w) ≡ true → (a ≡ t) ⊎ (member a w ≡ true)
 unfolding member
 member→ a t w h = ⊎-elim (λ k. inl (is→ k)) inr (or→ h)
+
+-- members of two lists in a row
+pub member-left : (t : ℕ) (s u : List ℕ) → member t s ≡ true → member t (s ++ u) ≡ true
+unfolding member
+member-left t [] u m = absurd (false≢true m)
+member-left t (a ∷ s) u m = ⊎-elim (λ (e : t ≡ a). rw e (member-head a (s ++ u))) (λ k. member-tail t a (s ++ u) (member-left t s u k)) (member→ t a s m)
+
+pub member-right : (t : ℕ) (s u : List ℕ) → member t u ≡ true → member t (s ++ u) ≡ true
+member-right t [] u m = m
+member-right t (a ∷ s) u m = member-tail t a (s ++ u) (member-right t s u m)
+
+pub member-either : (t : ℕ) (s u : List ℕ) → member t (s ++ u) ≡ true → (member t s ≡ true) ⊎ (member t u ≡ true)
+member-either t [] u m = inr m
+member-either t (a ∷ s) u m =
+    ⊎-elim (λ (e : t ≡ a). inl (rw e (member-head a s))) (λ k. ⊎-elim (λ l. inl (member-tail t a s l)) inr (member-either t s u k)) (member→ t a (s ++ u) m)
 
 pub all→ : (p : ℕ → Bool) (w : List ℕ) → all p w ≡ true → (a : ℕ) → member a w ≡ true → p a ≡ true
 unfolding all member

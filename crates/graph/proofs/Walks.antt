@@ -10,7 +10,7 @@ use Rattle.graph.specs.Tests.{_below_}
 use Rattle.graph.specs.Lists.{member, distinct}
 use Rattle.graph.specs.Cycle.{leads, is-cycle}
 use Rattle.graph.proofs.Truth.{decide, not-both, to-false, and→, →and, →fails, fails→, below→, →below, not-below→, →upto}
-use Rattle.graph.proofs.Places.{member→, →all, member-head, member-tail, distinct→}
+use Rattle.graph.proofs.Places.{member→, →all, member-head, member-tail, distinct→, member-left, member-right, member-either}
 use Rattle.graph.proofs.Pigeon.{pigeon}
 
 -- a member splits the list
@@ -53,20 +53,6 @@ module _ (edge : ℕ → ℕ → Bool) where
   leads-join home (a ∷ b ∷ s) y t p q = →and (and→ p .0) (leads-join home (b ∷ s) y t (and→ p .1) q)
 
 -- members and differences of two lists behind each other
-pub member-left : (t : ℕ) (s u : List ℕ) → member t s ≡ true → member t (s ++ u) ≡ true
-unfolding member
-member-left t [] u m = absurd (false≢true m)
-member-left t (a ∷ s) u m = ⊎-elim (λ (e : t ≡ a). rw e (member-head a (s ++ u))) (λ k. member-tail t a (s ++ u) (member-left t s u k)) (member→ t a s m)
-
-pub member-right : (t : ℕ) (s u : List ℕ) → member t u ≡ true → member t (s ++ u) ≡ true
-member-right t [] u m = m
-member-right t (a ∷ s) u m = member-tail t a (s ++ u) (member-right t s u m)
-
-pub member-either : (t : ℕ) (s u : List ℕ) → member t (s ++ u) ≡ true → (member t s ≡ true) ⊎ (member t u ≡ true)
-member-either t [] u m = inr m
-member-either t (a ∷ s) u m =
-    ⊎-elim (λ (e : t ≡ a). inl (rw e (member-head a s))) (λ k. ⊎-elim (λ l. inl (member-tail t a s l)) inr (member-either t s u k)) (member→ t a (s ++ u) m)
-
 pub record Apart (s u : List ℕ) : Type 0 where
   pub left : distinct s ≡ true
   pub right : distinct u ≡ true

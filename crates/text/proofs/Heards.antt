@@ -20,6 +20,7 @@ use Rattle.verdict.specs.declared.CleanAnswer.{CleanAnswer}
 use Rattle.verdict.specs.declared.SnapshotAnswer.{SnapshotAnswer}
 use Rattle.verdict.specs.declared.Answer.{Answer as CodeAnswer}
 use Rattle.verdict.specs.declared.Answer.the-variants as the-answer
+use Rattle.verdict.proofs.Only.{buffers-one}
 use Rattle.verdict.proofs.Frame.{work-taken, witness-taken, both-taken}
 use Rattle.verdict.proofs.WellFormed.{refused≢taken, else-try→}
 use Rattle.text.specs.Bytes.{bytes}
@@ -90,16 +91,13 @@ module _ {passes : List ℕ → Type 0} {key : List ℕ} {r : CodeAnswer} {witne
   pub heard-puts : {next : ℕ} {l′ : List ℕ} → Puts (answer-line key (heard witness′ r)) place l next l′ → PutsLine most-long passes place l next l′
   heard-puts p = (answer-line key (h .a), h .told, short, known-puts (answer-line key) (sym (h .is-heard)) l place p)
 
-second-one : {v w x y : List ℕ} → v ∷ x ∷ [] ≡ w ∷ y ∷ [] → x ≡ y
-second-one e = cc
-
 hears : {passes : List ℕ → Type 0} {key : List ℕ} {r : CodeAnswer} {work′ witness′ : List ℕ} (a : Answer) → length witness′ ≡ witness-entries
     → passes (answer-line key (just a)) → r ≡ said a → work′ ∷ witness′ ∷ [] ≡ leaves-witness a → Hears passes key r witness′
 unfolding leaves-witness entries
 hears {r} {witness′} a size v e f =
     let w = witness a in
     let z = zeros (witness-entries - length w) in
-    let g : witness′ ≡ w ++ z = second-one f in
+    let g : witness′ ≡ w ++ z = buffers-one f .1 in
     let h : length witness′ ≡ length w + length z = ap length g ∙ length-append w z in
     let t : take (length w) witness′ ≡ w = ap (take (length w)) g ∙ take-at w z (length w) refl in
     record {

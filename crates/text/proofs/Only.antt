@@ -11,7 +11,7 @@ use Rattle.verdict.specs.Limits.{most-steps}
 use Rattle.verdict.specs.Log.{steps}
 use Rattle.verdict.specs.Refusal.{Refusal, taken, refused}
 use Rattle.verdict.specs.Call.{answered}
-use Rattle.verdict.proofs.Only.{call-one}
+use Rattle.verdict.proofs.Only.{buffer-one, call-one}
 use Rattle.text.specs.Line.{header, sayable, largest}
 use Rattle.text.specs.Text.{lines, text-of, Steps}
 use Rattle.text.specs.Reading.{NoHeader, NoLine, Says, Reading, no-header, too-many, bad-line, extra, in-form}
@@ -130,10 +130,7 @@ read-refusal-one (by-line b c d) (by-line b′ c′ d′) = reading-one d d′
 pub read-call-one : {text buffer : List ℕ} {r s : ReadAnswer} {v w : List ℕ} → ReadCall text buffer r v → ReadCall text buffer s w → (r ≡ s) × (v ≡ w)
 read-call-one p q =
     let e = call-one (λ f g h k. read-refusal-one h k) (λ a b h k. says-one h k) p q in
-    (e .0, one-buffer (e .1))
-  where
-    one-buffer : {v w : List ℕ} → v ∷ [] ≡ w ∷ [] → v ≡ w
-    one-buffer e = cc
+    (e .0, buffer-one (e .1))
 
 -- what `text-of` writes is read back, where the text is no longer than a text may be
 module _ {n : ℕ} {log : List ℕ} (each : Steps n log) (few : n ≤ most-steps) where

@@ -1,6 +1,6 @@
 -- What is known after a call of `read` with a step buffer of the right length: the refusal's report, or the log that was read.
 use mathlib.Core.Path.{_≡_, sym, ap, _∙_}
-use mathlib.Core.List.{List, [], _∷_}
+use mathlib.Core.List.{List}
 use Prim.Native.Nat.{ℕ, _-_, _*_, _≤_}
 use native.Mathlib.Omega.{arith}
 use lib.ListN.{length, take}
@@ -10,6 +10,7 @@ use Rattle.verdict.specs.Limits.{most-steps}
 use Rattle.verdict.specs.Log.{steps}
 use Rattle.verdict.specs.Refusal.{taken, refused}
 use Rattle.verdict.specs.Call.{turned-away, answered}
+use Rattle.verdict.proofs.Only.{buffer-one}
 use Rattle.text.specs.Reading.{Says}
 use Rattle.text.specs.ReadCall.{most-bytes, step-entries, ReadRefusal, wrong-buffer, too-long, by-line, said-steps, leaves-steps, ReadCall}
 use Rattle.text.specs.ReportLine.{refused-line}
@@ -25,9 +26,6 @@ pub record Was (text buffer′ : List ℕ) (n : ℕ) : Type 0 where
   pub says : Says text log
   pub few : n ≤ most-steps
   pub holds : take (4 * n) buffer′ ≡ log
-
-one-buffer : {v w : List ℕ} → v ∷ [] ≡ w ∷ [] → v ≡ w
-one-buffer e = cc
 
 taken-short : {text buffer : List ℕ} → ReadRefusal text buffer taken → length text ≤ most-bytes
 taken-short (by-line h k r) = k
@@ -58,5 +56,5 @@ module _ (text buffer : List ℕ) (size : length buffer ≡ step-entries) where
         short = taken-short g;
         says = h;
         few = omega (arith, h .few);
-        holds = ap (take (4 * n)) (one-buffer f) ∙ take-at log (zeros (step-entries - length log)) (4 * n) k;
+        holds = ap (take (4 * n)) (buffer-one f) ∙ take-at log (zeros (step-entries - length log)) (4 * n) k;
       }

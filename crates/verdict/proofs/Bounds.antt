@@ -28,7 +28,7 @@ use Rattle.verdict.specs.Exact.{Exact, exact, exact-none, exact-unclean}
 use Rattle.verdict.specs.Next.{Next, next, next-none, list-refusal}
 use Rattle.verdict.proofs.WellFormed.{refused≢taken, else-try→, when→, Well, well-formed}
 use Rattle.verdict.proofs.Only.{clean≢unclean}
-use Rattle.verdict.proofs.Versions.{committed-range}
+use Rattle.verdict.proofs.Versions.{not-zero}
 use Rattle.verdict.proofs.Judge.{cleanness-clean, loosely-serial, explains-serial, conflict-ends, version-ends}
 
 -- REFUSALS
@@ -134,7 +134,7 @@ module _ (log : List ℕ) (well : log-refusal log ≡ taken) where
 
   -- at most as many nodes as transactions
   few-nodes : count (suc transactions) (committed log) ≤ transactions
-  few-nodes = count-above transactions (committed log) (to-false _ (λ h. let r = committed-range log formed 0 h .0 in omega arith))
+  few-nodes = count-above transactions (committed log) (to-false _ (λ h. not-zero log formed 0 h refl))
 
   -- what has only nodes for members
   nodes-upto : (w : List ℕ) → all (λ t. member t (nodes (suc transactions) (committed log))) w ≡ true → length w ≤ length (nodes (suc transactions) (committed log)) → MembersUpto transactions w

@@ -15,7 +15,7 @@ use Rattle.verdict.specs.Replay.{serial, finds, reads-right, writers-in-
 use Rattle.graph.proofs.Truth.{decide, not-both, to-true, and→, →and, or→, →or-left, →or-right, fails→, →fails, implies→, →implies, is→, →is, isnt→, →isnt, below→, →below, not-below→, some→, →some, none→, every→, →every}
 use Rattle.graph.proofs.Places.{all→, →all, before-left, before-irreflexive, before-trans, before-asym, before-total}
 use Rattle.verdict.proofs.WellFormed.{Well}
-use Rattle.verdict.proofs.Versions.{Wrote, Following, after-zero, after-other, share, shared, committed-range, commit-injective, next→, →next}
+use Rattle.verdict.proofs.Versions.{not-zero, Wrote, Following, after-zero, after-other, share, shared, committed-range, commit-injective, next→, →next}
 use Rattle.verdict.proofs.Finds.{Last, None, finds-cases}
 
 module _ {most : ℕ} (log : List ℕ) (well : Well most log) (w : List ℕ) (ser : serial most log w ≡ true) where
@@ -30,9 +30,6 @@ module _ {most : ℕ} (log : List ℕ) (well : Well most log) (w : List ℕ) (se
   is-member : (t : ℕ) → committed log t ≡ true → member t w ≡ true
   unfolding serial once-each
   is-member t c = implies→ (every→ _ (and→ ser .1) t (omega (arith, committed-range log well t c .1))) c
-
-  not-zero : (t : ℕ) → committed log t ≡ true → t ≡ 0 → ⊥
-  not-zero t c e = omega (arith, committed-range log well t c .0)
 
   -- a judged read, taken apart
   pub record Read (i : ℕ) : Type 0 where
@@ -64,7 +61,7 @@ module _ {most : ℕ} (log : List ℕ) (well : Well most log) (w : List ℕ) (se
         let x : ℕ = obj log (r .0) in
         let p : Wrote log x a = record { commit = and→ h .0; write = →some _ (r .0) (r .1) (→and (and→ (r .2) .0) (→is refl)) } in
         let f : Following log well x a b = next→ log well x a b (and→ (r .2) .1) in
-        by-commit x a b p (f .wrote) (rw (after-other log a (not-zero a (p .commit))) at (f .later))
+        by-commit x a b p (f .wrote) (rw (after-other log a (not-zero log well a (p .commit))) at (f .later))
 
     -- what a judged read from another finds is its source
     read-found : (i : ℕ) → i < steps log → judged-other log i ≡ true
@@ -113,7 +110,7 @@ module _ {most : ℕ} (log : List ℕ) (well : Well most log) (w : List ℕ) (se
             p = record { commit = of-member s (before-left s r w (l .here)); write = l .write }
 
             later : suc (commit-step log s) ≤ commit-step log b
-            later = rw (after-other log s (not-zero s (p .commit))) at (f .later)
+            later = rw (after-other log s (not-zero log well s (p .commit))) at (f .later)
 
             same-one : b ≡ s → ⊥
             same-one e = let c : commit-step log b ≡ commit-step log s = ap (commit-step log) e in omega (arith, later)
@@ -124,9 +121,9 @@ module _ {most : ℕ} (log : List ℕ) (well : Well most log) (w : List ℕ) (se
         go : ((src log i is tx log i) ≡ true) ⊎ ((src log i is tx log i) ≡ false) → before r b w ≡ true
         go (inl own) =
             let e : s ≡ r = is→ own in
-            let z : s ≡ 0 → ⊥ = λ (k : s ≡ 0). not-zero r (read .reader) (sym e ∙ k) in
+            let z : s ≡ 0 → ⊥ = λ (k : s ≡ 0). not-zero log well r (read .reader) (sym e ∙ k) in
             let p : Wrote log x r = record { commit = read .reader; write = rw e at (well .source i h (read .kind-2) z) } in
-            by-commit x r b p (f .wrote) (rw (after-other log r (not-zero r (read .reader))) at (rw e at (f .later)))
+            by-commit x r b p (f .wrote) (rw (after-other log r (not-zero log well r (read .reader))) at (rw e at (f .later)))
         go (inr own) = ⊎-elim (λ k. k) (λ k. absurd (from-other (read-found i h (→and j (→fails own))) k)) other
 
     keep-rw : (a b : ℕ) → (a ≡ b → ⊥) → reader-to-next log a b ≡ true → before a b w ≡ true
@@ -159,7 +156,7 @@ module _ {most : ℕ} (log : List ℕ) (well : Well most log) (w : List ℕ) (se
     join : (a b : ℕ) → committed log a ≡ true → committed log b ≡ true → (a ≡ b → ⊥) → (writer-to-next log a b or source-to-reader log a b or reader-to-next log a b) ≡ true → before a b w ≡ true
     unfolding version-edge
     join a b p q n h =
-        edge a b p q (→and (→and (→and (→fails (→isnt n)) (→fails (→isnt (not-zero a p)))) (→fails (→isnt (not-zero b q)))) h)
+        edge a b p q (→and (→and (→and (→fails (→isnt n)) (→fails (→isnt (not-zero log well a p)))) (→fails (→isnt (not-zero log well b q)))) h)
 
     to-next : (x a u : ℕ) → Wrote log x a → committed log u ≡ true → (a ≡ u → ⊥) → next-version log x a u ≡ true → before a u w ≡ true
     unfolding writer-to-next writer writes
@@ -174,7 +171,7 @@ module _ {most : ℕ} (log : List ℕ) (well : Well most log) (w : List ℕ) (se
     chain (suc k) x a b p q h l = go (decide (commit-step log u below commit-step log b)) (λ h′ l′. chain k x u b (f .wrote) q h′ l′)
       where
         a-after : after log a ≡ suc (commit-step log a)
-        a-after = after-other log a (not-zero a (p .commit))
+        a-after = after-other log a (not-zero log well a (p .commit))
 
         r : (u : ℕ) × (next-version log x a u ≡ true) × Following log well x a u
         r = →next log well x a b q (rw a-after h)

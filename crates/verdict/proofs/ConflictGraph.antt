@@ -2,8 +2,7 @@
 use mathlib.Core.Path.{_≡_, sym, _∙_}
 use mathlib.Core.Bool.{true, false}
 use mathlib.Core.List.{List}
-use Prim.Native.Nat.{ℕ, suc, _≤_}
-use native.Mathlib.Omega.{arith}
+use Prim.Native.Nat.{ℕ, suc}
 use Rattle.graph.specs.Tests.{_is_, _or_, some}
 use Rattle.graph.specs.Matrix.{takes-part, joined}
 use Rattle.graph.proofs.Truth.{same-test, and→, →and, and-no-left, and-no-right, and-true, →or-left, →or-right, or-no, or-false, →fails, fails→, isnt→, is→, →is, →isnt, some→, →some, →none}
@@ -14,7 +13,7 @@ use Rattle.verdict.specs.Conflict.{touches, meet, conflict-edge, Conflic
 use Rattle.verdict.specs.declared.Answer.{Answer}
 use Rattle.verdict.specs.Walk.{one-edge, conflict-pair, conflicts-until, Matrix, Committed, Showing, Answers}
 use Rattle.verdict.proofs.WellFormed.{Well}
-use Rattle.verdict.proofs.Versions.{committed-range}
+use Rattle.verdict.proofs.Versions.{not-zero}
 use Rattle.verdict.proofs.Matrices.{Kept, one-edge→, →one-edge, Between, shown-of}
 
 -- WHICH STEPS MEET
@@ -64,9 +63,6 @@ module _ {most : ℕ} (log : List ℕ) (well : Well most log) where
   unfolding conflicts-until conflict-pair conflict-edge
   all-conflicts a b = same-test there back
     where
-      positive : (t : ℕ) → committed log t ≡ true → t ≡ 0 → ⊥
-      positive t c z = let r : 1 ≤ t = committed-range log well t c .0 in omega arith
-
       there : conflicts-until log (steps log) a b ≡ true → conflict-edge log a b ≡ true
       there h =
           let x = some→ h in
@@ -87,7 +83,7 @@ module _ {most : ℕ} (log : List ℕ) (well : Well most log) where
           let f : tx log (x .0) ≡ b = is→ (and→ (x .2) .0) in
           let y = some→ (and→ (x .2) .1) in
           let e : tx log (y .0) ≡ a = is→ (and→ (y .2) .0) in
-          let k : Kept a b = record { differ = isnt→ (fails→ (and→ (q .0) .0)); from = positive a a-committed; to = positive b b-committed } in
+          let k : Kept a b = record { differ = isnt→ (fails→ (and→ (q .0) .0)); from = not-zero log well a a-committed; to = not-zero log well b b-committed } in
           →some _ (x .0) (x .1) (→some _ (y .0) (y .1)
           (→and (→and (→and (rw f b-committed) (rw e a-committed)) (and→ (y .2) .1)) (rw (e, f) (→one-edge k))))
 

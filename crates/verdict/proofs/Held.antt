@@ -24,9 +24,10 @@ use Rattle.verdict.specs.Call.{turned-away, answered, leaves-witness, Wi
 use Rattle.verdict.specs.declared.Fault.{Fault}
 use Rattle.verdict.specs.declared.Answer.the-variants.{Order, Cycle, Nothing, Unclean}
 use Rattle.verdict.proofs.WellFormed.{else-try→, well-formed}
-use Rattle.verdict.proofs.Versions.{committed-range}
+use Rattle.verdict.proofs.Versions.{not-zero}
 use Rattle.verdict.proofs.Judge.{explains-serial}
 use Rattle.verdict.proofs.Refused.{when-no}
+use Rattle.verdict.proofs.Only.{buffers-one}
 use Rattle.verdict.proofs.Bounds.{once-few}
 use Rattle.verdict.proofs.NextLaws.{stops, goes, starts, passes}
 
@@ -59,7 +60,7 @@ module _ (log : List ℕ) (well : log-refusal log ≡ taken) (w : List ℕ) (h :
 
   no-zero : NoZero w
   unfolding once-each
-  no-zero t m e = let r = committed-range log (well-formed log well) t (and→ (all→ _ w (and→ (and→ once .0) .1) t m) .1) .0 in omega arith
+  no-zero t m e = not-zero log (well-formed log well) t (and→ (all→ _ w (and→ (and→ once .0) .1) t m) .1) e
 
   -- it is what "next" reads there
   pub read-back : up-to-zero (entries witness-entries w) ≡ w
@@ -119,9 +120,6 @@ told-unclean (shown (cycle c)) e = let z : _≡_ {A = ℕ} 0 1 = cc in absurd (o
 told-unclean none e = let z : _≡_ {A = ℕ} 0 1 = cc in absurd (omega arith)
 told-unclean (unclean-by g) e = (g, refl)
 
-second-one : {v w x y : List ℕ} → v ∷ x ∷ [] ≡ w ∷ y ∷ [] → x ≡ y
-second-one e = cc
-
 module _ (refusal : Refusal) {verdict : Answer → Type 0} {work witness work′ witness′ : List ℕ} where
   pub call-order : {n : ℕ} → WitnessCall refusal verdict work witness (Order n) work′ witness′ → Ordered refusal verdict n witness′
   unfolding leaves-witness witness-of entries
@@ -129,7 +127,7 @@ module _ (refusal : Refusal) {verdict : Answer → Type 0} {work witness work′
   call-order {n} (answered a g v e k) =
       let t = told-order a e in
       let w = t .0 in
-      let l : witness′ ≡ entries witness-entries w = second-one (rw (t .1) at k) in
+      let l : witness′ ≡ entries witness-entries w = buffers-one (rw (t .1) at k) .1 in
       record {
         well = else-try→ (else-try→ (sym g) .1) .1;
         w = w;

@@ -12,8 +12,8 @@ use Rattle.graph.specs.Tests.{_is_, _below_, _and_, _or_, _implies_, fails, if_
 use Rattle.graph.specs.Lists.{member, distinct}
 use Rattle.graph.specs.First.{dictionary, First, Never}
 use Rattle.graph.specs.Order.{once-each}
-use Rattle.graph.proofs.Truth.{decide, not-both, to-false, to-true, and→, →and, and-true, and-true-right, and-no-left, and-no-right, or→, →or-left, →or-right, or-false, fails→, →fails, →not-fails, implies→, →implies, is→, →is, isnt→, →isnt, below→, →below, not-below→, if-true, if-false, every→, →every, some→, count-none, count-same, count-without, none-counted}
-use Rattle.graph.proofs.Places.{member→, member-head, member-tail, all→, →all, distinct→}
+use Rattle.graph.proofs.Truth.{decide, not-both, to-false, to-true, and→, →and, and-true, and-true-right, and-no-left, and-no-right, →or-left, →or-right, or-false, fails→, →fails, →not-fails, implies→, →implies, is→, →is, isnt→, →isnt, below→, →below, not-below→, if-true, if-false, every→, →every, some→, count-none, count-same, count-without, none-counted}
+use Rattle.graph.proofs.Places.{member→, member-head, member-tail, all→, →all, distinct→, member-left, member-right, member-either}
 use Rattle.graph.proofs.Dictionary.{dictionary-not}
 use Rattle.verdict.specs.Limits.{transactions, objects}
 use Rattle.verdict.specs.Log.{steps, kind, tx, obj, src, reads, committed, writer}
@@ -145,21 +145,6 @@ module _ (log : List ℕ) (x : ℕ) where
       (λ a m. f a (member-tail a t p m))
 
 -- LISTS WITH ONE MORE AT THE END
-pub member-front : (a : ℕ) (p u : List ℕ) → member a p ≡ true → member a (p ++ u) ≡ true
-unfolding member
-member-front a [] u m = absurd (false≢true m)
-member-front a (t ∷ p) u m = ⊎-elim (λ (k : (a is t) ≡ true). →or-left _ k) (λ k. →or-right _ (member-front a p u k)) (or→ m)
-
-pub member-back : (a : ℕ) (p u : List ℕ) → member a u ≡ true → member a (p ++ u) ≡ true
-unfolding member
-member-back a [] u m = m
-member-back a (t ∷ p) u m = →or-right _ (member-back a p u m)
-
-pub member-append→ : (a : ℕ) (p u : List ℕ) → member a (p ++ u) ≡ true → (member a p ≡ true) ⊎ (member a u ≡ true)
-unfolding member
-member-append→ a [] u m = inr m
-member-append→ a (t ∷ p) u m = ⊎-elim (λ (k : (a is t) ≡ true). inl (→or-left _ k)) (λ k. ⊎-elim (λ l. inl (→or-right _ l)) inr (member-append→ a p u k)) (or→ m)
-
 -- what stands behind a beginning of different numbers is not in it
 pub distinct-behind : (t : ℕ) (p u : List ℕ) → distinct (p ++ t ∷ u) ≡ true → member t p ≡ false
 distinct-behind t p u d = to-false _ (λ m. go p m d)
@@ -168,14 +153,14 @@ distinct-behind t p u d = to-false _ (λ m. go p m d)
     go [] m d = false≢true (unfold member in m)
     go (a ∷ p) m d =
         let r = distinct→ a (p ++ t ∷ u) d in
-        ⊎-elim (λ (e : t ≡ a). not-both (subst (λ (z : ℕ). member z (p ++ t ∷ u) ≡ true) e (member-back t p (t ∷ u) (member-head t u))) (r .0)) (λ k. go p k (r .1)) (member→ t a p m)
+        ⊎-elim (λ (e : t ≡ a). not-both (subst (λ (z : ℕ). member z (p ++ t ∷ u) ≡ true) e (member-right t p (t ∷ u) (member-head t u))) (r .0)) (λ k. go p k (r .1)) (member→ t a p m)
 
 pub distinct-more : (t : ℕ) (p : List ℕ) → distinct p ≡ true → member t p ≡ false → distinct (p ++ t ∷ []) ≡ true
 unfolding distinct
 distinct-more t [] d m = →and (→fails (unfold member in refl)) refl
 distinct-more t (a ∷ p) d m =
     let r = distinct→ a p d in
-    →and (→fails (to-false _ (λ k. ⊎-elim (λ l. not-both l (r .0)) (λ (l : member a (t ∷ []) ≡ true). last l) (member-append→ a p (t ∷ []) k))))
+    →and (→fails (to-false _ (λ k. ⊎-elim (λ l. not-both l (r .0)) (λ (l : member a (t ∷ []) ≡ true). last l) (member-either a p (t ∷ []) k))))
     (distinct-more t p (r .1) (to-false _ (λ k. not-both (member-tail t a p k) m)))
   where
     last : member a (t ∷ []) ≡ true → ⊥
@@ -217,7 +202,7 @@ module _ (log : List ℕ) (well : Well transactions log) where
     module _ (t : ℕ) (c : committed log t ≡ true) (n : member t p ≡ false) where
       right-more : ((x : ℕ) → x < objects → allows (need log t x (steps log)) (ran log x 0 p) ≡ true) → (i : ℕ) → i < steps log → judged-other log i ≡ true
           → member (tx log i) (p ++ t ∷ []) ≡ true → finds log (obj log i) (tx log i) 0 (p ++ t ∷ []) ≡ src log i
-      right-more f i h j m = ⊎-elim old (λ (k : member (tx log i) (t ∷ []) ≡ true). ⊎-elim new (λ (l : member (tx log i) [] ≡ true). absurd (false≢true (unfold member in l))) (member→ (tx log i) t [] k)) (member-append→ (tx log i) p (t ∷ []) m)
+      right-more f i h j m = ⊎-elim old (λ (k : member (tx log i) (t ∷ []) ≡ true). ⊎-elim new (λ (l : member (tx log i) [] ≡ true). absurd (false≢true (unfold member in l))) (member→ (tx log i) t [] k)) (member-either (tx log i) p (t ∷ []) m)
         where
           old : member (tx log i) p ≡ true → finds log (obj log i) (tx log i) 0 (p ++ t ∷ []) ≡ src log i
           old k = finds-in log (obj log i) (tx log i) 0 p (t ∷ []) k ∙ placed .right i h j k
@@ -235,7 +220,7 @@ module _ (log : List ℕ) (well : Well transactions log) where
       placed-more f free′ last′ m w =
           record {
             different = distinct-more t p (placed .different) n;
-            members = →all _ (p ++ t ∷ []) (λ a k. ⊎-elim (λ l. all→ _ p (placed .members) a l) (λ (l : member a (t ∷ []) ≡ true). ⊎-elim (λ (e : a ≡ t). rw e c) (λ (z : member a [] ≡ true). absurd (false≢true (unfold member in z))) (member→ a t [] l)) (member-append→ a p (t ∷ []) k));
+            members = →all _ (p ++ t ∷ []) (λ a k. ⊎-elim (λ l. all→ _ p (placed .members) a l) (λ (l : member a (t ∷ []) ≡ true). ⊎-elim (λ (e : a ≡ t). rw e c) (λ (z : member a [] ≡ true). absurd (false≢true (unfold member in z))) (member→ a t [] l)) (member-either a p (t ∷ []) k));
             right = right-more f;
             left = m;
             writers = λ x h. w x h ∙ ap (λ (v : ℕ). if writer log x t then t else v) (placed .writers x h) ∙ sym (ran-more log x 0 t p);
@@ -256,7 +241,7 @@ module _ (log : List ℕ) (well : Well transactions log) where
     pub goes-on : (a : ℕ) (u : List ℕ) → explains-loosely transactions log (p ++ a ∷ u) ≡ true → (committed log a ≡ true) × (member a p ≡ false) × (1 ≤ a) × (a ≤ transactions)
     goes-on a u h =
         let s = serial-of (p ++ a ∷ u) h in
-        let c : committed log a ≡ true = s .1 a (member-back a p (a ∷ u) (member-head a u)) in
+        let c : committed log a ≡ true = s .1 a (member-right a p (a ∷ u) (member-head a u)) in
         let r = committed-range log well a c in
         (c, distinct-behind a p u (s .0), r .0, r .1)
 
@@ -377,11 +362,11 @@ module _ (log : List ℕ) (well : Well transactions log) (p free last : List ℕ
         one-less a = go (decide (member a p)) (decide (a is t))
           where
             go : (member a p ≡ true) ⊎ (member a p ≡ false) → ((a is t) ≡ true) ⊎ ((a is t) ≡ false) → ((committed log a and fails (member a p)) and fails (a is t)) ≡ (committed log a and fails (member a (p ++ t ∷ [])))
-            go (inl k) q = and-no-left _ (and-no-right _ (→not-fails k)) ∙ sym (and-no-right _ (→not-fails (member-front a p (t ∷ []) k)))
-            go (inr k) (inl q) = and-no-right _ (→not-fails q) ∙ sym (and-no-right _ (→not-fails (member-back a p (t ∷ []) (unfold member in (→or-left _ q)))))
+            go (inl k) q = and-no-left _ (and-no-right _ (→not-fails k)) ∙ sym (and-no-right _ (→not-fails (member-left a p (t ∷ []) k)))
+            go (inr k) (inl q) = and-no-right _ (→not-fails q) ∙ sym (and-no-right _ (→not-fails (member-right a p (t ∷ []) (unfold member in (→or-left _ q)))))
             go (inr k) (inr q) =
                 and-true-right _ (→fails q) ∙ and-true-right _ (→fails k)
-                ∙ sym (and-true-right _ (→fails (to-false _ (λ e. ⊎-elim (λ l. not-both l k) (λ (l : member a (t ∷ []) ≡ true). ⊎-elim (λ (z : a ≡ t). isnt→ q z) (λ (z : member a [] ≡ true). false≢true (unfold member in z)) (member→ a t [] l)) (member-append→ a p (t ∷ []) e)))))
+                ∙ sym (and-true-right _ (→fails (to-false _ (λ e. ⊎-elim (λ l. not-both l k) (λ (l : member a (t ∷ []) ≡ true). ⊎-elim (λ (z : a ≡ t). isnt→ q z) (λ (z : member a [] ≡ true). false≢true (unfold member in z)) (member→ a t [] l)) (member-either a p (t ∷ []) e)))))
 
     pub one-fewer : suc (count (suc transactions) (λ a. fails (getD (set free t 0) a 0 is 0))) ≡ count (suc transactions) (λ a. fails (getD free a 0 is 0))
     one-fewer =

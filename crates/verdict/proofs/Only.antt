@@ -80,10 +80,11 @@ call-one {says} {leaves} sole one (answered a g h u v) (answered b g′ h′ u�
     (u ∙ ap says z ∙ sym u′, v ∙ ap leaves z ∙ sym v′)
 
 -- EACH ENTRY POINT: ITS ANSWER, ITS WORK AREA AND ITS WITNESS
-buffer-one : {v w : List ℕ} → v ∷ [] ≡ w ∷ [] → v ≡ w
+-- equal buffers, one by one
+pub buffer-one : {v w : List ℕ} → v ∷ [] ≡ w ∷ [] → v ≡ w
 buffer-one e = cc
 
-buffers-one : {v w x y : List ℕ} → v ∷ x ∷ [] ≡ w ∷ y ∷ [] → (v ≡ w) × (x ≡ y)
+pub buffers-one : {v w x y : List ℕ} → v ∷ x ∷ [] ≡ w ∷ y ∷ [] → (v ≡ w) × (x ≡ y)
 buffers-one e = (cc, cc)
 
 module _ (log : List ℕ) {work : List ℕ} where

@@ -57,6 +57,9 @@ module _ {most : ℕ} (log : List ℕ) (well : Well most log) where
   pub committed-range : (t : ℕ) → committed log t ≡ true → (1 ≤ t) × (t ≤ most)
   committed-range t h = rw (tx-at t h) at (well .range (commit-step log t) (commit-step-is t h .0))
 
+  pub not-zero : (t : ℕ) → committed log t ≡ true → t ≡ 0 → ⊥
+  not-zero t c e = omega (arith, committed-range t c .0)
+
   pub commit-injective : (a b : ℕ) → committed log a ≡ true → committed log b ≡ true → commit-step log a ≡ commit-step log b → a ≡ b
   commit-injective a b p q e = sym (tx-at a p) ∙ ap (tx log) e ∙ tx-at b q
 
