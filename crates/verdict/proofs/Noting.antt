@@ -1,16 +1,16 @@
 -- What the check notes of each step, and what its marks say.
 use mathlib.Core.Path.{_≡_, refl, sym, _∙_}
 use mathlib.Core.Bool.{Bool, true, false}
-use mathlib.Core.Logic.{_⊎_, inl, inr, ⊎-elim}
+use mathlib.Core.Logic.{_⊎_, ⊎-elim}
 use mathlib.Core.List.{List}
 use Prim.Native.Nat.{ℕ, suc, _+_, _*_, _/_, _%_, _≤_, _<_}
 use native.Mathlib.Omega.{arith}
-use lib.ListN.{length, getD, set, replicate, length-set, length-replicate}
+use lib.ListN.{getD, set, replicate, length-set, length-replicate}
 use Rattle.graph.specs.Tests.{_is_, _and_, _or_, fails, some}
 use Rattle.graph.proofs.Truth.{to-false, and→, →and, and-no-left, and-no-right, →or-left, →or-right, or-no, is→, →is, →isnt}
 use Rattle.verdict.specs.Limits.{transactions, objects}
 use Rattle.verdict.specs.Log.{steps, kind, tx, obj, begins, writes, commits, aborts}
-use Rattle.verdict.specs.Refusal.{_at_when_, tried, begun, ended, wrote, open-refusal}
+use Rattle.verdict.specs.Refusal.{tried, begun, ended, wrote, open-refusal}
 use Rattle.verdict.specs.Walk.{open-by-marks, Marked, Written, Noted}
 use Rattle.verdict.proofs.Loosely.{pair-row, pair-column}
 use Rattle.verdict.proofs.Marks.{unmarked, mark-step, mark-skip}
