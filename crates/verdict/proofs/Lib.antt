@@ -9,6 +9,7 @@ pub mod Frame
 pub mod Marks
 pub mod SnapshotLaws
 pub mod Loosely
+pub mod Noting
 pub mod Matrices
 pub mod Versions
 pub mod ConflictGraph

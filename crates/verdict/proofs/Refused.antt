@@ -93,6 +93,12 @@ tried-first {n = suc n} {m} {p} f i k h e = go (decide (i below n)) (λ q. tried
     go (inl q) rec = ap (λ (z : Refusal). z else-try f n) (rec (below→ q))
     go (inr q) rec = let z : i ≡ n = omega (arith, not-below→ q) in ap (λ (z : Refusal). z else-try f n) (rw z at h) ∙ (rw z at e)
 
+-- equal refusals at each place
+pub tried-same : (n : ℕ) (f g : ℕ → Refusal) → ((i : ℕ) → i < n → f i ≡ g i) → tried n f ≡ tried n g
+unfolding tried
+tried-same zero f g h = refl
+tried-same (suc n) f g h = rw (tried-same n f g (λ i k. h i (omega arith)), h n (omega arith)) refl
+
 -- THE CHOICE OF A CONSTRUCTOR
 module _ {A : Type 0} where
   pub chose-first : (b : Bool) (x y : A) {z : A} → (if b then x else y) ≡ z → (y ≡ z → ⊥) → b ≡ true

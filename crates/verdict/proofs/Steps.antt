@@ -1,17 +1,18 @@
 -- The numbers 1, 2 and 7 to 11, from the answers to the questions that decide them.
-use mathlib.Core.Path.{_≡_, refl, ap, _∙_}
+use mathlib.Core.Path.{_≡_, refl, _∙_}
 use mathlib.Core.Bool.{true, false}
 use mathlib.Core.Logic.{_⊎_, ⊎-elim}
 use mathlib.Core.List.{List}
 use Prim.Native.Nat.{ℕ, suc, _%_}
 use native.Mathlib.Omega.{arith}
-use lib.ListN.{length}
+use lib.ListN.{length, getD}
 use Rattle.graph.specs.Tests.{_is_, _upto_, _and_, fails}
-use Rattle.graph.proofs.Truth.{→and, and-no-left, and-no-right, →or-left, →or-right, or-no, →fails, →not-fails, →is, →isnt, →below, →not-below, upto→, not-upto→}
+use Rattle.graph.proofs.Truth.{→and, and-no-left, and-no-right, →or-left, →or-right, or-no, fails→, →fails, not-fails→, →not-fails, →is, →isnt, →below, →not-below, upto→, not-upto→}
 use Rattle.verdict.specs.Limits.{transactions, most-steps}
 use Rattle.verdict.specs.Log.{steps, kind, tx, obj, src}
 use Rattle.verdict.specs.Refusal.{Refusal, taken, refused, _else-try_, tried, begun, ended, wrote, life-refusal, source-refusal, step-refusal, open-refusal, log-refusal}
 use Rattle.verdict.specs.Said.{said-refusal}
+use Rattle.verdict.specs.Walk.{open-by-marks}
 use Rattle.verdict.specs.declared.Checked.the-variants as checked
 use Rattle.verdict.proofs.Refused.{when-yes, when-no, first-yes, first-no}
 
@@ -65,15 +66,15 @@ module _ (log : List ℕ) (i : ℕ) where
       unfolding source-refusal
       source-right o = first-no 9 i _ not-9 ∙ when-no 10 i (⊎-elim (λ e. and-no-right _ (→not-fails (→is e))) (λ w. and-no-left _ (and-no-right _ w)) o)
 
--- 11
-module _ (log : List ℕ) (t : ℕ) where
-  pub still-open : begun log (steps log) t ≡ true → ended log (steps log) t ≡ false → open-refusal log t ≡ refused 11 t
-  unfolding open-refusal
-  still-open b e = when-yes 11 t (→and b (→fails e))
+-- 11, by marks
+module _ (begins ends : List ℕ) (t : ℕ) where
+  pub still-open : fails (getD begins t 0 is 0) ≡ true → fails (getD ends t 0 is 0) ≡ false → open-by-marks begins ends t ≡ refused 11 t
+  unfolding open-by-marks
+  still-open b e = when-yes 11 t (→and b (not-fails→ e))
 
-  pub not-open : (begun log (steps log) t ≡ false) ⊎ (ended log (steps log) t ≡ true) → open-refusal log t ≡ taken
-  unfolding open-refusal
-  not-open o = when-no 11 t (⊎-elim (λ b. and-no-left _ b) (λ e. and-no-right _ (→not-fails e)) o)
+  pub not-open : (fails (getD begins t 0 is 0) ≡ false) ⊎ (fails (getD ends t 0 is 0) ≡ true) → open-by-marks begins ends t ≡ taken
+  unfolding open-by-marks
+  not-open o = when-no 11 t (⊎-elim (λ b. and-no-left _ b) (λ e. and-no-right _ (fails→ e)) o)
 
 -- THE WHOLE LOG
 module _ (log : List ℕ) where
@@ -89,19 +90,10 @@ module _ (log : List ℕ) where
     unfolding log-refusal
     too-long m = first-no 1 0 _ not-1 ∙ first-yes 2 0 _ (→below (not-upto→ m))
 
-    module _ (within : (steps log upto most-steps) ≡ true) where
-      -- the steps decide, and after the last the transactions begun and not ended
-      by-steps : log-refusal log ≡ (tried (steps log) (step-refusal log) else-try tried (suc transactions) (open-refusal log))
-      unfolding log-refusal
-      by-steps = first-no 1 0 _ not-1 ∙ first-no 2 0 _ (→not-below (upto→ within))
-
-      pub bad-step : {n p : ℕ} → tried (steps log) (step-refusal log) ≡ refused n p → log-refusal log ≡ refused n p
-      unfolding _else-try_
-      bad-step e = by-steps ∙ ap (λ (z : Refusal). z else-try tried (suc transactions) (open-refusal log)) e
-
-      pub good-steps : tried (steps log) (step-refusal log) ≡ taken → log-refusal log ≡ tried (suc transactions) (open-refusal log)
-      unfolding _else-try_
-      good-steps e = by-steps ∙ ap (λ (z : Refusal). z else-try tried (suc transactions) (open-refusal log)) e
+    -- the steps decide, and after the last the transactions begun and not ended
+    pub by-steps : (steps log upto most-steps) ≡ true → log-refusal log ≡ (tried (steps log) (step-refusal log) else-try tried (suc transactions) (open-refusal log))
+    unfolding log-refusal
+    by-steps within = first-no 1 0 _ not-1 ∙ first-no 2 0 _ (→not-below (upto→ within))
 
 -- what the code says of a refusal tells which it is
 pub said-refused : {n p : ℕ} (f : Refusal) → said-refusal f ≡ checked.Refused n p → f ≡ refused n p

@@ -10,6 +10,7 @@ use Rattle.graph.specs.Tests.{_is_, _below_, _upto_, _and_, _or_, fails}
 use Rattle.verdict.specs.Limits.{transactions, objects}
 use Rattle.verdict.specs.Log.{steps, kind, tx, obj, src, commits, writer}
 use Rattle.verdict.specs.Refusal.{Refusal, taken, refused, _at_when_, _else-try_, tried, object-allowed, source-allowed, begun, ended, wrote, range-refusal, life-refusal, source-refusal, step-refusal, log-refusal}
+use Rattle.verdict.specs.Walk.{InRange}
 use Rattle.graph.proofs.Truth.{decide, not-both, to-true, and→, →and, →or-left, →or-right, →fails, is→, →is, →isnt, upto→, below→, not-below→, some→, →some, if-true}
 
 Is-taken : Refusal → Type 0
@@ -39,6 +40,41 @@ tried→ {n = suc n} f h i k = go (decide (i below n)) (else-try→ h .1) (λ m.
     go (inl m) q rec = rec (below→ m)
     go (inr m) q rec = let e : i ≡ n = omega (arith, not-below→ m) in rw e q
 
+-- a step to which none of 3 to 6 applies
+module _ (log : List ℕ) (i : ℕ) (within : InRange log i) where
+  test-4 : fails (1 upto tx log i and tx log i upto transactions) ≡ false
+  unfolding InRange range-refusal
+  test-4 = when→ 4 i _ (else-try→ (else-try→ within .1) .0)
+
+  test-5 : fails (object-allowed (kind log i) (obj log i)) ≡ false
+  unfolding InRange range-refusal
+  test-5 = when→ 5 i _ (else-try→ (else-try→ (else-try→ within .1) .1) .0)
+
+  test-6 : fails (source-allowed (kind log i) (src log i)) ≡ false
+  unfolding InRange range-refusal
+  test-6 = when→ 6 i _ (else-try→ (else-try→ (else-try→ within .1) .1) .1)
+
+  -- transactions are 1..128
+  pub tx-within : (1 ≤ tx log i) × (tx log i ≤ transactions)
+  tx-within = let r = and→ (to-true _ (λ q. not-both (→fails q) test-4)) in (upto→ (r .0), upto→ (r .1))
+
+  -- objects of reads and writes are 0..63
+  pub object-within : (kind log i ≡ 2) ⊎ (kind log i ≡ 3) → obj log i < objects
+  unfolding object-allowed
+  object-within k =
+      let t : (kind log i is 2 or kind log i is 3) ≡ true = ⊎-elim (λ (e : kind log i ≡ 2). →or-left _ (→is e)) (λ (e : kind log i ≡ 3). →or-right _ (→is e)) k in
+      below→ (rw (if-true (obj log i below objects) (obj log i is 0) t) at (to-true _ (λ q. not-both (→fails q) test-5)))
+
+  -- sources of reads are 0..128
+  pub source-within : kind log i ≡ 2 → src log i ≤ transactions
+  unfolding source-allowed
+  source-within k = upto→ (rw (if-true (src log i upto transactions) (src log i is 0) (→is k)) at (to-true _ (λ q. not-both (→fails q) test-6)))
+
+-- .. which is so where no number turns the step away
+pub step-within : (log : List ℕ) (i : ℕ) → step-refusal log i ≡ taken → InRange log i
+unfolding step-refusal InRange
+step-within log i h = else-try→ h .0
+
 module _ (log : List ℕ) (well : log-refusal log ≡ taken) where
   step-taken : (i : ℕ) → i < steps log → step-refusal log i ≡ taken
   unfolding log-refusal
@@ -46,21 +82,8 @@ module _ (log : List ℕ) (well : log-refusal log ≡ taken) where
 
   -- the tests that the theorems rest on fail at each step
   module _ (i : ℕ) (h : i < steps log) where
-    ranges : range-refusal i (kind log i) (tx log i) (obj log i) (src log i) ≡ taken
-    unfolding step-refusal
-    ranges = else-try→ (step-taken i h) .0
-
-    test-4 : fails (1 upto tx log i and tx log i upto transactions) ≡ false
-    unfolding range-refusal
-    test-4 = when→ 4 i _ (else-try→ (else-try→ ranges .1) .0)
-
-    test-5 : fails (object-allowed (kind log i) (obj log i)) ≡ false
-    unfolding range-refusal
-    test-5 = when→ 5 i _ (else-try→ (else-try→ (else-try→ ranges .1) .1) .0)
-
-    test-6 : fails (source-allowed (kind log i) (src log i)) ≡ false
-    unfolding range-refusal
-    test-6 = when→ 6 i _ (else-try→ (else-try→ (else-try→ ranges .1) .1) .1)
+    ranges : InRange log i
+    ranges = step-within log i (step-taken i h)
 
     test-8 : (fails (kind log i is 1) and (fails (begun log i (tx log i)) or ended log i (tx log i))) ≡ false
     unfolding step-refusal life-refusal
@@ -69,22 +92,6 @@ module _ (log : List ℕ) (well : log-refusal log ≡ taken) where
     test-9 : (kind log i is 2 and fails (src log i is 0) and fails (wrote log i (src log i) (obj log i))) ≡ false
     unfolding step-refusal source-refusal
     test-9 = when→ 9 i _ (else-try→ (else-try→ (else-try→ (step-taken i h) .1) .1) .0)
-
-    -- transactions are 1..128
-    tx-range : (1 ≤ tx log i) × (tx log i ≤ transactions)
-    tx-range = let r = and→ (to-true _ (λ q. not-both (→fails q) test-4)) in (upto→ (r .0), upto→ (r .1))
-
-    -- objects of reads and writes are 0..63
-    object-range : (kind log i ≡ 2) ⊎ (kind log i ≡ 3) → obj log i < objects
-    unfolding object-allowed
-    object-range k =
-        let t : (kind log i is 2 or kind log i is 3) ≡ true = ⊎-elim (λ (e : kind log i ≡ 2). →or-left _ (→is e)) (λ (e : kind log i ≡ 3). →or-right _ (→is e)) k in
-        below→ (rw (if-true (obj log i below objects) (obj log i is 0) t) at (to-true _ (λ q. not-both (→fails q) test-5)))
-
-    -- sources of reads are 0..128
-    source-range : kind log i ≡ 2 → src log i ≤ transactions
-    unfolding source-allowed
-    source-range k = upto→ (rw (if-true (src log i upto transactions) (src log i is 0) (→is k)) at (to-true _ (λ q. not-both (→fails q) test-6)))
 
     -- a source other than 0 wrote the object in an earlier step
     source-wrote : kind log i ≡ 2 → (src log i ≡ 0 → ⊥) → writer log (obj log i) (src log i) ≡ true
@@ -116,4 +123,4 @@ pub record Well (most : ℕ) (log : List ℕ) : Type 0 where
   pub once : (t i j : ℕ) → i < j → j < steps log → commits log t i ≡ true → commits log t j ≡ true → ⊥
 
 pub well-formed : (log : List ℕ) → log-refusal log ≡ taken → Well transactions log
-well-formed log well = record { range = tx-range log well; object = object-range log well; sources = source-range log well; source = source-wrote log well; once = commits-once log well }
+well-formed log well = record { range = λ i h. tx-within log i (ranges log well i h); object = λ i h. object-within log i (ranges log well i h); sources = λ i h. source-within log i (ranges log well i h); source = source-wrote log well; once = commits-once log well }

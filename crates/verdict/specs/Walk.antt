@@ -2,7 +2,7 @@
 use mathlib.Core.Path.{_≡_}
 use mathlib.Core.Bool.{Bool, false}
 use mathlib.Core.List.{List, [], _∷_}
-use Prim.Native.Nat.{ℕ, suc, _+_, _-_, _*_, _≤_, _<_}
+use Prim.Native.Nat.{ℕ, suc, _+_, _-_, _*_, _/_, _%_, _≤_, _<_}
 use lib.ListN.{length, getD, set, take, drop}
 use Rattle.graph.specs.Tests.{_is_, _below_, _upto_, _and_, _or_, fails, if_then_else_, some, lowest}
 use Rattle.graph.specs.Shows.{Shown, Shows}
@@ -14,7 +14,7 @@ use Rattle.verdict.specs.Version.{next-commit}
 use Rattle.verdict.specs.Next.{Next, up-to-zero, from-zero, list-refusal}
 use Rattle.verdict.specs.declared.Answer.the-variants as the-answer
 use Rattle.verdict.specs.Snapshot.{overlap, clash, wrong-commit}
-use Rattle.verdict.specs.Refusal.{Refusal, _at_when_, _else-try_}
+use Rattle.verdict.specs.Refusal.{Refusal, taken, _at_when_, _else-try_, begun, ended, wrote, range-refusal}
 use Rattle.verdict.specs.Answer as answer
 use Rattle.verdict.specs.Said.{said}
 use Rattle.verdict.specs.Call.{Call, leaves-witness}
@@ -43,6 +43,28 @@ module _ (log : List ℕ) where
 -- the marks say of each number below n whether it passes
 pub record Marked (n : ℕ) (passes : ℕ → Bool) (marks : List ℕ) : Type 0 where
   pub mark : (c : ℕ) → c < n → fails (getD marks c 0 is 0) ≡ passes c
+
+-- 11 for one transaction, by the marks of who has begun and who has ended
+unfoldable pub open-by-marks : (begins ends : List ℕ) → ℕ → Refusal
+open-by-marks begins ends t = 11 at t when fails (getD begins t 0 is 0) and getD ends t 0 is 0
+
+module _ (log : List ℕ) (i : ℕ) where
+  -- none of 3 to 6 applies to step i
+  unfoldable pub InRange : Type 0
+  InRange = range-refusal i (kind log i) (tx log i) (obj log i) (src log i) ≡ taken
+
+  -- the marks say of each transaction and object whether it wrote the object before step i
+  unfoldable pub Written : List ℕ → Type 0
+  Written = Marked (suc transactions * objects) (λ k. wrote log i (k / objects) (k % objects))
+
+  -- the marks say who has begun before step i, who has ended, and who wrote what
+  pub record Noted (begins ends writes : List ℕ) : Type 0 where
+    pub has-begun : Marked (suc transactions) (begun log i) begins
+    pub has-ended : Marked (suc transactions) (ended log i) ends
+    pub has-written : Written writes
+    pub begins-size : length begins ≡ suc transactions
+    pub ends-size : length ends ≡ suc transactions
+    pub writes-size : length writes ≡ suc transactions * objects
 
 module _ (log : List ℕ) where
   -- p committed before step j and overlaps t

@@ -6,18 +6,18 @@ use crate::limits::MadeObject;
 use crate::limits::MadeTransaction;
 use crate::limits::Object;
 use crate::limits::Transaction;
-use crate::walk::ended_before;
-use crate::walk::seen;
-use crate::walk::writes_within;
+use crate::walk::index;
+use crate::walk::marked;
+use crate::walk::pair_marked;
 ghost use mathlib.Core.Path.{_≡_};
 ghost use Prim.Native.Nat.{ℕ, suc, _≤_, _+_, _*_};
 ghost use lib.ListN.{length};
 ghost use Rattle.graph.specs.Tests.{_is_, _below_, _upto_, fails, if_then_else_};
 ghost use Rattle.verdict.specs.Limits.{transactions, objects, witness-entries, work-bytes};
-ghost use Rattle.verdict.specs.Log.{steps};
-ghost use Rattle.verdict.specs.Refusal.{_at_when_, _else-try_, tried, range-refusal, life-refusal, source-refusal, step-refusal, open-refusal, log-refusal};
+ghost use Rattle.verdict.specs.Log.{steps, tx};
+ghost use Rattle.verdict.specs.Refusal.{_at_when_, _else-try_, tried, begun, ended, range-refusal, life-refusal, source-refusal, step-refusal, open-refusal, log-refusal};
 ghost use Rattle.verdict.specs.Said.{said-refusal};
-ghost use Rattle.verdict.specs.Walk.{numbered, in-range};
+ghost use Rattle.verdict.specs.Walk.{numbered, in-range, open-by-marks, Marked, InRange, Written, Noted};
 
 // Whether an object is as the kind allows it: any object, or only 0.
 fn object_fits(any: bool, x: u16) -> bool
@@ -74,14 +74,20 @@ fn range_number(k: u16, t: u16, x: u16, s: u16) -> u16
     }
 }
 
-// 7 or 8, where it applies to step i; else 0.
-fn life_number(log: &[u16], i: usize) -> u16
-    requires { ⌜ 4 * i + 4 ≤ length (now log) ⌝ }
+// 7 or 8, where it applies to step i, by the marks of who began and who ended before it; else 0.
+fn life_number(
+    log: &[u16],
+    i: usize,
+    begins: &[u8; Transaction::TABLE],
+    ends: &[u8; Transaction::TABLE],
+) -> u16
+    requires { ⌜ (4 * i + 4 ≤ length (now log)) × (tx (now log) i ≤ transactions)
+        × Marked (suc transactions) (begun (now log) i) (now begins) × Marked (suc transactions) (ended (now log) i) (now ends) ⌝ }
     ensures { λ r. ⌜ numbered r i ≡ life-refusal (now (log .entry)) i ⌝ }
 {
     let k = log[4 * i];
     let t = log[4 * i + 1];
-    let begun = seen(log, i, 1, t);
+    let begun = marked(begins, t);
     if k == 1 {
         if begun {
             return 7;
@@ -91,15 +97,15 @@ fn life_number(log: &[u16], i: usize) -> u16
     if !begun {
         return 8;
     }
-    if ended_before(log, i, t) {
+    if marked(ends, t) {
         return 8;
     }
     0
 }
 
-// 9 or 10, where it applies to step i; else 0.
-fn source_number(log: &[u16], i: usize) -> u16
-    requires { ⌜ 4 * i + 4 ≤ length (now log) ⌝ }
+// 9 or 10, where it applies to step i, by the marks of who wrote what before it; else 0.
+fn source_number(log: &[u16], i: usize, writes: &[u8; Transaction::PAIRS]) -> u16
+    requires { ⌜ (4 * i + 4 ≤ length (now log)) × InRange (now log) i × Written (now log) i (now writes) ⌝ }
     ensures { λ r. ⌜ numbered r i ≡ source-refusal (now (log .entry)) i ⌝ }
 {
     let k = log[4 * i];
@@ -110,65 +116,105 @@ fn source_number(log: &[u16], i: usize) -> u16
         return 0;
     }
     if s != 0 {
-        if !writes_within(log, 0, i, s, x) {
+        if !pair_marked(writes, s, x) {
             return 9;
         }
     }
     if s != t {
-        if writes_within(log, 0, i, t, x) {
+        if pair_marked(writes, t, x) {
             return 10;
         }
     }
     0
 }
 
-// The first of 3 to 10 that applies to step i; 0 if none does.
-fn step_number(log: &[u16], i: usize) -> u16
-    requires { ⌜ 4 * i + 4 ≤ length (now log) ⌝ }
+// The first of 3 to 10 that applies to step i, by the marks of the steps before it; 0 if none does.
+fn step_number(
+    log: &[u16],
+    i: usize,
+    begins: &[u8; Transaction::TABLE],
+    ends: &[u8; Transaction::TABLE],
+    writes: &[u8; Transaction::PAIRS],
+) -> u16
+    requires { ⌜ (4 * i + 4 ≤ length (now log)) × Noted (now log) i (now begins) (now ends) (now writes) ⌝ }
     ensures { λ r. ⌜ numbered r i ≡ step-refusal (now (log .entry)) i ⌝ }
 {
     let range = range_number(log[4 * i], log[4 * i + 1], log[4 * i + 2], log[4 * i + 3]);
     if range != 0 {
         return range;
     }
-    let life = life_number(log, i);
+    let life = life_number(log, i, begins, ends);
     if life != 0 {
         return life;
     }
-    source_number(log, i)
+    source_number(log, i, writes)
 }
 
-// 3 to 10, step by step.
-fn check_steps(log: &[u16], n: usize) -> Checked
-    requires { ⌜ 4 * n ≤ length (now log) ⌝ }
-    ensures { λ r. ⌜ r ≡ said-refusal (tried n (step-refusal (now (log .entry)))) ⌝ }
+// The marks of step i, which no number turns away: who begins, who ends, who writes what.
+fn note_step(
+    log: &[u16],
+    i: usize,
+    begins: &mut [u8; Transaction::TABLE],
+    ends: &mut [u8; Transaction::TABLE],
+    writes: &mut [u8; Transaction::PAIRS],
+)
+    requires { ⌜ (4 * i + 4 ≤ length (now log)) × InRange (now log) i × Noted (now log) i (now begins) (now ends) (now writes) ⌝ }
+    ensures { λ _. ⌜ Noted (now (log .entry)) (i + 1) (now (begins .exit)) (now (ends .exit)) (now (writes .exit)) ⌝ }
 {
-    let mut i = 0;
-    while i < n {
-        let number = step_number(log, i);
-        if number != 0 {
-            return Checked::Refused(number, i);
-        }
-        i += 1;
+    let k = log[4 * i];
+    let t = index(log[4 * i + 1]);
+    if k == 1 {
+        begins[t] = 1;
+        return;
     }
-    Checked::Passed
+    if k == 3 {
+        let x = index(log[4 * i + 2]);
+        writes[t * Object::TABLE + x] = 1;
+        return;
+    }
+    if k == 4 {
+        ends[t] = 1;
+        return;
+    }
+    if k == 5 {
+        ends[t] = 1;
+    }
 }
 
-// 11, at the lowest transaction begun and not ended.
-fn check_open(log: &[u16], n: usize) -> Checked
-    requires { ⌜ n ≡ steps (now log) ⌝ }
-    ensures { λ r. ⌜ r ≡ said-refusal (tried (suc transactions) (open-refusal (now (log .entry)))) ⌝ }
+// 11, at the lowest transaction begun and not ended, by the marks of all steps.
+fn check_open(begins: &[u8; Transaction::TABLE], ends: &[u8; Transaction::TABLE]) -> Checked
+    ensures { λ r. ⌜ r ≡ said-refusal (tried (suc transactions) (open-by-marks (now (begins .entry)) (now (ends .entry)))) ⌝ }
 {
     let mut t: u16 = 0;
     while t <= Transaction::LIMIT {
-        if seen(log, n, 1, t) {
-            if !ended_before(log, n, t) {
+        if marked(begins, t) {
+            if !marked(ends, t) {
                 return Checked::Refused(11, t as usize);
             }
         }
         t += 1;
     }
     Checked::Passed
+}
+
+// 3 to 10, step by step, with marks carried along; and behind the last step 11.
+fn check_steps(log: &[u16], n: usize) -> Checked
+    requires { ⌜ n ≡ steps (now log) ⌝ }
+    ensures { λ r. ⌜ r ≡ said-refusal (tried n (step-refusal (now (log .entry))) else-try tried (suc transactions) (open-refusal (now (log .entry)))) ⌝ }
+{
+    let mut begins = [0u8; Transaction::TABLE];
+    let mut ends = [0u8; Transaction::TABLE];
+    let mut writes = [0u8; Transaction::PAIRS];
+    let mut i = 0;
+    while i < n {
+        let number = step_number(log, i, &begins, &ends, &writes);
+        if number != 0 {
+            return Checked::Refused(number, i);
+        }
+        note_step(log, i, &mut begins, &mut ends, &mut writes);
+        i += 1;
+    }
+    check_open(&begins, &ends)
 }
 
 // The first of 1 to 11 that applies, with its place, or that the log is well-formed.
@@ -183,11 +229,7 @@ pub fn check(log: &[u16]) -> Checked
     let MadeLog::Within(_) = made else {
         return Checked::Refused(2, 0);
     };
-    let stepwise = check_steps(log, n);
-    let Checked::Passed = stepwise else {
-        return stepwise;
-    };
-    check_open(log, n)
+    check_steps(log, n)
 }
 
 // 12 where the work area has a wrong length, and then what the check finds.

@@ -2,13 +2,13 @@
 use crate::limits::Object;
 use crate::limits::Transaction;
 ghost use mathlib.Core.Path.{_≡_};
-ghost use Prim.Native.Nat.{suc, _≤_, _*_};
-ghost use lib.ListN.{length};
-ghost use Rattle.graph.specs.Tests.{_upto_, _and_, some, lowest};
+ghost use Prim.Native.Nat.{suc, _≤_, _<_, _+_, _*_};
+ghost use lib.ListN.{length, getD};
+ghost use Rattle.graph.specs.Tests.{_is_, _upto_, _and_, fails, some, lowest};
 ghost use Rattle.graph.specs.Lists.{zeros};
 ghost use Rattle.verdict.specs.Limits.{transactions, objects};
 ghost use Rattle.verdict.specs.Log.{steps, writes, writer, committed-count};
-ghost use Rattle.verdict.specs.Refusal.{taken, ended, log-refusal};
+ghost use Rattle.verdict.specs.Refusal.{taken, log-refusal};
 ghost use Rattle.verdict.specs.Walk.{does, FirstSteps, Marked};
 
 // A number of a log as an index.
@@ -72,15 +72,23 @@ pub fn writes_within(log: &[u16], from: usize, to: usize, t: u16, x: u16) -> boo
     false
 }
 
-// Whether t has ended among the first so many steps.
-pub fn ended_before(log: &[u16], n: usize, t: u16) -> bool
-    requires { ⌜ 4 * n ≤ length (now log) ⌝ }
-    ensures { λ r. ⌜ r ≡ ended (now (log .entry)) n t ⌝ }
+// Whether the mark of t is set.
+pub fn marked(marks: &[u8; Transaction::TABLE], t: u16) -> bool
+    requires { ⌜ t ≤ transactions ⌝ }
+    ensures { λ r. ⌜ r ≡ fails (getD (now (marks .entry)) t 0 is 0) ⌝ }
 {
-    if seen(log, n, 4, t) {
-        return true;
-    }
-    seen(log, n, 5, t)
+    let at = index(t);
+    marks[at] != 0
+}
+
+// Whether the mark of t and x is set.
+pub fn pair_marked(marks: &[u8; Transaction::PAIRS], t: u16, x: u16) -> bool
+    requires { ⌜ (t ≤ transactions) × (x < objects) ⌝ }
+    ensures { λ r. ⌜ r ≡ fails (getD (now (marks .entry)) (t * objects + x) 0 is 0) ⌝ }
+{
+    let row = index(t);
+    let column = index(x);
+    marks[row * Object::TABLE + column] != 0
 }
 
 // How many transactions committed: the commits in the log.

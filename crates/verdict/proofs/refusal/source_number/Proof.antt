@@ -1,13 +1,14 @@
-use mathlib.Core.Path.{sym, _∙_}
+use mathlib.Core.Path.{sym}
 use mathlib.Core.Logic.{inl, inr, ⊎-elim}
-use borrow.Author.Needs.{needs}
 use Rattle.graph.specs.Tests.{_is_, fails}
 use Rattle.verdict.specs.Log.{kind, tx, obj, src}
-use Rattle.verdict.specs.Refusal.{_at_when_, wrote}
+use Rattle.verdict.specs.Refusal.{_at_when_}
 use Rattle.verdict.specs.Walk.{numbered}
-use Rattle.graph.proofs.Truth.{from-first}
 use borrow.Author.Tests.{not-true, not-false}
 use Rattle.verdict.proofs.Steps.{no-read, never-wrote, own-write-passed, source-right}
+use Rattle.verdict.proofs.WellFormed.{tx-within, object-within, source-within}
+use Rattle.verdict.proofs.Noting.{by-pair}
+use borrow.Author.Needs.{needs}
 use Rattle.verdict.proofs.refusal.source_number.Statement.{statement}
 use Rattle.verdict.proofs.refusal.source_number.Tie as tie
 
@@ -57,30 +58,44 @@ shared-slice-read-s : tie.Need-shared-slice-read-s
 shared-slice-read-s c = search needs
 
 returns : tie.Need-returns
-unfolding numbered _at_when_ fails _is_ wrote kind tx obj src
+unfolding numbered _at_when_ fails _is_ kind tx obj src
 returns c = sym (no-read _ _ (c .if1 .taken))
 
-writes-within-requires : tie.Need-writes-within-requires
-writes-within-requires c κs = search needs
+pair-marked-requires : tie.Need-pair-marked-requires
+unfolding kind tx obj src
+pair-marked-requires c κs =
+    let a = c .before .before .before .before .before .before .before in
+    (source-within _ _ (a .pre .1) (c .before .if1 .left), object-within _ _ (a .pre .1) (inl (c .before .if1 .left)))
 
 returns-2 : tie.Need-returns-2
-unfolding numbered _at_when_ fails _is_ wrote kind tx obj src
-returns-2 c = sym (never-wrote _ _ (c .before .before .before .if1 .left) (c .before .before .if2 .taken) (from-first _ _ ∙ sym (c .before .writes-within .ensures) ∙ not-true _ (c .if3 .taken)))
+unfolding numbered _at_when_ fails _is_ kind tx obj src
+returns-2 c =
+    let a = c .before .before .before .before .before .before .before .before .before in
+    sym (never-wrote _ _ (c .before .before .before .if1 .left) (c .before .before .if2 .taken) (by-pair _ _ _ (a .pre .2) _ _ (source-within _ _ (a .pre .1) (c .before .before .before .if1 .left)) (object-within _ _ (a .pre .1) (inl (c .before .before .before .if1 .left))) (c .before .pair-marked .ensures) (not-true _ (c .if3 .taken))))
 
-writes-within-requires-2 : tie.Need-writes-within-requires-2
-writes-within-requires-2 c κs = search needs
+pair-marked-requires-2 : tie.Need-pair-marked-requires-2
+unfolding kind tx obj src
+pair-marked-requires-2 c κs =
+    let a = c .before .before .before .before .before .before .before .before in
+    (tx-within _ _ (a .pre .1) .1, object-within _ _ (a .pre .1) (inl (c .before .before .if1 .left)))
 
 returns-3 : tie.Need-returns-3
-unfolding numbered _at_when_ fails _is_ wrote kind tx obj src
-returns-3 c = sym (own-write-passed _ _ (c .before .before .before .before .if1 .left) (⊎-elim (λ w. inr (from-first _ _ ∙ sym (w .1 .ensures) ∙ not-false _ (w .2 .left))) (λ w. inl (w .left)) (c .before .before .before .if2 .came)) (c .before .before .if4 .taken) (from-first _ _ ∙ sym (c .before .writes-within2 .ensures) ∙ c .if5 .taken))
+unfolding numbered _at_when_ fails _is_ kind tx obj src
+returns-3 c =
+    let a = c .before .before .before .before .before .before .before .before .before .before in
+    sym (own-write-passed _ _ (c .before .before .before .before .if1 .left) (⊎-elim (λ w. inr (by-pair _ _ _ (a .pre .2) _ _ (source-within _ _ (a .pre .1) (c .before .before .before .before .if1 .left)) (object-within _ _ (a .pre .1) (inl (c .before .before .before .before .if1 .left))) (w .1 .ensures) (not-false _ (w .2 .left)))) (λ w. inl (w .left)) (c .before .before .before .if2 .came)) (c .before .before .if4 .taken) (by-pair _ _ _ (a .pre .2) _ _ (tx-within _ _ (a .pre .1) .1) (object-within _ _ (a .pre .1) (inl (c .before .before .before .before .if1 .left))) (c .before .pair-marked2 .ensures) (c .if5 .taken)))
 
 returns-4 : tie.Need-returns-4
-unfolding numbered _at_when_ fails _is_ wrote kind tx obj src
-returns-4 c = sym (source-right _ _ (c .before .before .before .before .if1 .left) (⊎-elim (λ w. inr (from-first _ _ ∙ sym (w .1 .ensures) ∙ not-false _ (w .2 .left))) (λ w. inl (w .left)) (c .before .before .before .if2 .came)) (inr (from-first _ _ ∙ sym (c .before .writes-within2 .ensures) ∙ c .if5 .left)))
+unfolding numbered _at_when_ fails _is_ kind tx obj src
+returns-4 c =
+    let a = c .before .before .before .before .before .before .before .before .before .before in
+    sym (source-right _ _ (c .before .before .before .before .if1 .left) (⊎-elim (λ w. inr (by-pair _ _ _ (a .pre .2) _ _ (source-within _ _ (a .pre .1) (c .before .before .before .before .if1 .left)) (object-within _ _ (a .pre .1) (inl (c .before .before .before .before .if1 .left))) (w .1 .ensures) (not-false _ (w .2 .left)))) (λ w. inl (w .left)) (c .before .before .before .if2 .came)) (inr (by-pair _ _ _ (a .pre .2) _ _ (tx-within _ _ (a .pre .1) .1) (object-within _ _ (a .pre .1) (inl (c .before .before .before .before .if1 .left))) (c .before .pair-marked2 .ensures) (c .if5 .left))))
 
 returns-5 : tie.Need-returns-5
-unfolding numbered _at_when_ fails _is_ wrote kind tx obj src
-returns-5 c = sym (source-right _ _ (c .before .before .if1 .left) (⊎-elim (λ w. inr (from-first _ _ ∙ sym (w .1 .ensures) ∙ not-false _ (w .2 .left))) (λ w. inl (w .left)) (c .before .if2 .came)) (inl (c .if4 .left)))
+unfolding numbered _at_when_ fails _is_ kind tx obj src
+returns-5 c =
+    let a = c .before .before .before .before .before .before .before .before in
+    sym (source-right _ _ (c .before .before .if1 .left) (⊎-elim (λ w. inr (by-pair _ _ _ (a .pre .2) _ _ (source-within _ _ (a .pre .1) (c .before .before .if1 .left)) (object-within _ _ (a .pre .1) (inl (c .before .before .if1 .left))) (w .1 .ensures) (not-false _ (w .2 .left)))) (λ w. inl (w .left)) (c .before .if2 .came)) (inl (c .if4 .left)))
 
 pub source-number-spec : {M : Type 1} → statement M
 source-number-spec =
@@ -102,9 +117,9 @@ source-number-spec =
     mul-s-2
     shared-slice-read-s
     returns
-    writes-within-requires
+    pair-marked-requires
     returns-2
-    writes-within-requires-2
+    pair-marked-requires-2
     returns-3
     returns-4
     returns-5)

@@ -1,8 +1,10 @@
 use mathlib.Core.Path.{sym, _∙_}
-use borrow.Author.Needs.{needs}
 use Rattle.verdict.specs.Log.{kind, tx, obj, src}
 use Rattle.verdict.specs.Refusal.{step-refusal}
-use Rattle.verdict.proofs.Refused.{numbered-first, numbered-then}
+use Rattle.verdict.specs.Walk.{InRange}
+use Rattle.verdict.proofs.Refused.{numbered-none, numbered-first, numbered-then}
+use Rattle.verdict.proofs.WellFormed.{tx-within}
+use borrow.Author.Needs.{needs}
 use Rattle.verdict.proofs.refusal.step_number.Statement.{statement}
 use Rattle.verdict.proofs.refusal.step_number.Tie as tie
 
@@ -59,14 +61,20 @@ unfolding step-refusal kind tx obj src
 returns c = numbered-first _ _ _ (c .before .range-number .ensures _) (c .if1 .taken)
 
 life-number-requires : tie.Need-life-number-requires
-life-number-requires c κs = search needs
+unfolding InRange kind tx obj src
+life-number-requires c κs =
+    let a = c .before .before .before .before .before .before .before in
+    (a .pre .0, tx-within (a .args .log .now) (a .args .i) (sym (c .before .range-number .ensures _) ∙ numbered-none _ _ (c .if1 .left)) .1, a .pre .1 .has-begun, a .pre .1 .has-ended)
 
 returns-2 : tie.Need-returns-2
 unfolding step-refusal kind tx obj src
 returns-2 c = numbered-first _ _ _ (c .before .life-number .ensures) (c .if2 .taken) ∙ sym (numbered-then _ _ (c .before .before .before .range-number .ensures _) (c .before .before .if1 .left))
 
 source-number-requires : tie.Need-source-number-requires
-source-number-requires c κs = search needs
+unfolding InRange kind tx obj src
+source-number-requires c κs =
+    let a = c .before .before .before .before .before .before .before .before .before in
+    (a .pre .0, sym (c .before .before .before .range-number .ensures _) ∙ numbered-none _ _ (c .before .before .if1 .left), a .pre .1 .has-written)
 
 returns-3 : tie.Need-returns-3
 unfolding step-refusal kind tx obj src
