@@ -3,7 +3,7 @@ use mathlib.Core.Path.{_≡_, refl, sym, ap, subst, fun-ext, _∙_}
 use mathlib.Core.Bool.{Bool, true, false}
 use mathlib.Core.Logic.{_⊎_, inl, inr, ⊎-elim}
 use mathlib.Core.List.{_∷_}
-use Prim.Native.Nat.{ℕ, suc, _+_, _≤_, _<_}
+use Prim.Native.Nat.{ℕ, zero, suc, _+_, _≤_, _<_}
 use native.Mathlib.Omega.{arith}
 use native.Mathlib.Numerals.{add-one}
 use Rattle.graph.specs.Tests.{_is_, _below_, _and_, some, lowest}
@@ -39,6 +39,14 @@ module _ (edge : ℕ → ℕ → Bool) where
   reach-on : (s t k : ℕ) → reach edge s (suc k) t ≡ true → (u : ℕ) × (u < 129) × (s < u) × (edge t u ≡ true) × (reach edge s k u ≡ true)
   unfolding reach
   reach-on s t k h = let r = some→ h in let q = and→ (r .2) in let o = and→ (q .0) in (r .0, r .1, below→ (o .0), o .1, q .1)
+
+  -- a vertex that no edge leaves is on no walk back
+  pub far-alone : (s k t : ℕ) → ((u : ℕ) → edge t u ≡ false) → far edge s k t ≡ 128
+  far-alone s k t none = far-none s k t (λ j _. stays j)
+    where
+      stays : (j : ℕ) → reach edge s j t ≡ false
+      stays zero = unfold reach in none s
+      stays (suc j) = to-false _ (λ h. let r = reach-on s t j h in not-both (r .3) (none (r .0)))
 
   -- nothing shorter than the least reaches
   pub far-before : (s k t j : ℕ) → j < far edge s k t → j < k → j < 128 → reach edge s j t ≡ false

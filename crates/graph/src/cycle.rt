@@ -69,6 +69,18 @@ fn distances(m: &[u8], part: &[u8; 128], s: usize) -> [usize; 128]
     dist
 }
 
+// How many vertices the shortest closed walk from s has besides s. A vertex that takes no part has none.
+fn around(m: &[u8], part: &[u8; 128], s: usize) -> usize
+    requires { ⌜ (length (now m) ≡ 16384) × (1 ≤ s) × (s ≤ 128) ⌝ }
+    ensures { λ r. ⌜ r ≡ far (joined 128 (now (m .entry)) (now (part .entry))) s 128 s ⌝ }
+{
+    if part[s - 1] == 0 {
+        return 128;
+    }
+    let dist = distances(m, part, s);
+    dist[s - 1]
+}
+
 // The shortest closed walk, and of these the one whose lowest vertex is lowest.
 fn best(m: &[u8], part: &[u8; 128]) -> Ring
     requires { ⌜ length (now m) ≡ 16384 ⌝ }
@@ -78,8 +90,7 @@ fn best(m: &[u8], part: &[u8; 128]) -> Ring
     let mut start: usize = 0;
     let mut s: usize = 1;
     while s <= 128 {
-        let dist = distances(m, part, s);
-        let k = dist[s - 1];
+        let k = around(m, part, s);
         if k < len {
             len = k;
             start = s;

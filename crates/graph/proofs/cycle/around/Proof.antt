@@ -1,0 +1,46 @@
+use mathlib.Core.Path.{sym}
+use native.Mathlib.Omega.{arith}
+use borrow.Author.Needs.{needs}
+use Rattle.graph.proofs.Marks.{none-from}
+use Rattle.graph.proofs.Far.{far-alone}
+use Rattle.graph.proofs.cycle.around.Statement.{statement}
+use Rattle.graph.proofs.cycle.around.Tie as tie
+
+sub-if1 : tie.Need-sub-if1
+sub-if1 c = search needs
+
+element-copy-out-if1 : tie.Need-element-copy-out-if1
+element-copy-out-if1 c = search needs
+
+returns : tie.Need-returns
+returns c = sym (far-alone _ _ 128 _ (λ u. none-from 128 _ _ _ u (c .if1 .taken)))
+
+distances-requires : tie.Need-distances-requires
+distances-requires c κs = search needs
+
+sub-result : tie.Need-sub-result
+sub-result c = search needs
+
+mul-result : tie.Need-mul-result
+mul-result c = search needs
+
+array-read-result : tie.Need-array-read-result
+array-read-result c = search needs
+
+returns-2 : tie.Need-returns-2
+returns-2 c =
+    let here = c .before .before .before .before .args in
+    c .distances .ensures .each (here .s) (omega arith) (omega arith)
+
+pub around-spec : {M : Type 1} → statement M
+around-spec =
+    tie.close
+    (tie.spec
+    sub-if1
+    element-copy-out-if1
+    returns
+    distances-requires
+    sub-result
+    mul-result
+    array-read-result
+    returns-2)
