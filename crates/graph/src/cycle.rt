@@ -17,41 +17,36 @@ struct Ring {
     start: usize,
 }
 
-// dist, with mark for each vertex that has 128 there and an edge to v.
-fn spread(m: &[u8], part: &[u8; 128], dist: [usize; 128], v: usize, mark: usize) -> [usize; 128]
-    requires { ⌜ (length (now m) ≡ 16384) × (1 ≤ v) × (v ≤ 128) × (mark < 128) ⌝ }
-    ensures { λ r. ⌜ Marked (λ t. joined 128 (now (m .entry)) (now (part .entry)) t v) mark (entry dist) (entry r) ⌝ }
+// Puts mark into dist for each vertex that has 128 there and an edge to v.
+fn spread(dist: &mut [usize], m: &[u8], part: &[u8; 128], v: usize, mark: usize)
+    requires { ⌜ (length (now dist) ≡ 128) × (length (now m) ≡ 16384) × (1 ≤ v) × (v ≤ 128) × (mark < 128) ⌝ }
+    ensures { λ _. ⌜ Marked (λ t. joined 128 (now (m .entry)) (now (part .entry)) t v) mark (entry (now (dist .entry))) (entry (now (dist .exit))) ⌝ }
 {
-    let mut next = dist;
     let mut u: usize = 1;
     while u <= 128 {
-        if next[u - 1] == 128 {
+        if dist[u - 1] == 128 {
             if joins(m, part, u, v) {
-                next[u - 1] = mark;
+                dist[u - 1] = mark;
             }
         }
         u += 1;
     }
-    next
 }
 
-// dist, with d + 1 for each vertex that has 128 there and an edge to one above s that has d.
-fn layer(m: &[u8], part: &[u8; 128], dist: [usize; 128], s: usize, d: usize) -> [usize; 128]
-    requires { ⌜ (length (now m) ≡ 16384) × (d + 1 < 128) ⌝ }
-    ensures { λ r. ⌜ Marked (λ t. some 129 (λ u. s below u and entry dist u is d and joined 128 (now (m .entry)) (now (part .entry)) t u)) (d + 1) (entry dist) (entry r) ⌝ }
+// Puts d + 1 into dist for each vertex that has 128 there and an edge to one above s that has d.
+fn layer(dist: &mut [usize], m: &[u8], part: &[u8; 128], s: usize, d: usize)
+    requires { ⌜ (length (now dist) ≡ 128) × (length (now m) ≡ 16384) × (d + 1 < 128) ⌝ }
+    ensures { λ _. ⌜ Marked (λ t. some 129 (λ u. s below u and entry (now (dist .entry)) u is d and joined 128 (now (m .entry)) (now (part .entry)) t u)) (d + 1) (entry (now (dist .entry))) (entry (now (dist .exit))) ⌝ }
 {
-    let mut next = dist;
     let mut u: usize = 1;
     while u <= 128 {
         if s < u {
-            if next[u - 1] == d {
-                let more = spread(m, part, next, u, d + 1);
-                next = more;
+            if dist[u - 1] == d {
+                spread(dist, m, part, u, d + 1);
             }
         }
         u += 1;
     }
-    next
 }
 
 // How far each vertex is from s.
@@ -59,11 +54,11 @@ fn distances(m: &[u8], part: &[u8; 128], s: usize) -> [usize; 128]
     requires { ⌜ (length (now m) ≡ 16384) × (1 ≤ s) × (s ≤ 128) ⌝ }
     ensures { λ r. ⌜ Near (joined 128 (now (m .entry)) (now (part .entry))) s 128 (entry r) ⌝ }
 {
-    let mut dist = spread(m, part, [128usize; 128], s, 0);
+    let mut dist = [128usize; 128];
+    spread(&mut dist, m, part, s, 0);
     let mut d: usize = 0;
     while d < 127 {
-        let more = layer(m, part, dist, s, d);
-        dist = more;
+        layer(&mut dist, m, part, s, d);
         d += 1;
     }
     dist

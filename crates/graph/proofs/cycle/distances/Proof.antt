@@ -1,6 +1,8 @@
+use mathlib.Core.Path.{_≡_, _∙_}
 use Prim.Native.Nat.{_+_, _≤_, _-_}
 use native.Mathlib.Omega.{arith}
-use lib.ListN.{getD-replicate}
+use lib.ListN.{length, getD-replicate}
+use borrow.Author.Needs.{needs}
 use Rattle.graph.specs.Matrix.{joined}
 use Rattle.graph.specs.Steps.{entry, Near}
 use Rattle.graph.proofs.Marks.{ends-to}
@@ -9,16 +11,22 @@ use Rattle.graph.proofs.cycle.distances.Statement.{statement}
 use Rattle.graph.proofs.cycle.distances.Tie as tie
 
 abbrev Inv-loop : tie.InvT-loop
-Inv-loop m part s dist₀ d₀ dist d = (d ≤ 127) × Near (joined 128 m part) s (d + 1) (entry dist)
+Inv-loop m part s dist₀ d₀ dist d = (d ≤ 127) × (length dist ≡ 128) × Near (joined 128 m part) s (d + 1) (entry dist)
 
 abbrev μ-loop : tie.MeasureT-loop
 μ-loop m part s dist₀ d₀ dist d = 127 - d
+
+slice-aggregate-spread : tie.Need-slice-aggregate-spread Inv-loop μ-loop
+slice-aggregate-spread c = search needs
 
 spread-requires : tie.Need-spread-requires Inv-loop μ-loop
 spread-requires c κs = omega arith
 
 loop-holds : tie.Need-loop-holds Inv-loop μ-loop
-loop-holds c = (omega arith, near-one _ (ends-to 128 _ _) _ (λ t a b. getD-replicate 128 (t - 1) 128 0 (omega arith)) (c .spread .ensures))
+loop-holds c = (omega arith, c .before .spread .kept .0, near-one _ (ends-to 128 _ _) _ (λ t a b. getD-replicate 128 (t - 1) 128 0 (omega arith)) (c .before .spread .ensures))
+
+slice-aggregate-layer : tie.Need-slice-aggregate-layer Inv-loop μ-loop
+slice-aggregate-layer c = search needs
 
 layer-requires : tie.Need-layer-requires Inv-loop μ-loop
 layer-requires c κs = omega arith
@@ -30,10 +38,10 @@ loop-less : tie.Need-loop-less Inv-loop μ-loop
 loop-less c = omega arith
 
 loop-again : tie.Need-loop-again Inv-loop μ-loop
-loop-again c = (omega arith, near-more _ (ends-to 128 _ _) _ _ (omega arith) (c .before .before .loop .inv .1) (c .layer .ensures))
+loop-again c = (omega arith, c .before .layer .kept .0 ∙ c .before .before .before .before .loop .inv .1, near-more _ (ends-to 128 _ _) _ _ (omega arith) (c .before .before .before .before .loop .inv .2) (c .before .layer .ensures))
 
 returns : tie.Need-returns Inv-loop μ-loop
-returns c = near-at (c .before .loop .inv .1) 128 (omega arith)
+returns c = near-at (c .before .loop .inv .2) 128 (omega arith)
 
 pub distances-spec : {M : Type 1} → statement M
 distances-spec =
@@ -41,8 +49,10 @@ distances-spec =
     (tie.spec
     Inv-loop
     μ-loop
+    slice-aggregate-spread
     spread-requires
     loop-holds
+    slice-aggregate-layer
     layer-requires
     add-d
     loop-less
