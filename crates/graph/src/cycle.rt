@@ -49,30 +49,52 @@ fn layer(dist: &mut [usize], m: &[u8], part: &[u8; 128], s: usize, d: usize)
     }
 }
 
-// How far each vertex is from s.
-fn distances(m: &[u8], part: &[u8; 128], s: usize) -> [usize; 128]
-    requires { ⌜ (length (now m) ≡ 16384) × (1 ≤ s) × (s ≤ 128) ⌝ }
-    ensures { λ r. ⌜ Near (joined 128 (now (m .entry)) (now (part .entry))) s 128 (entry r) ⌝ }
+// Whether some vertex above s has d in dist.
+fn reached(dist: &[usize; 128], s: usize, d: usize) -> bool
+    requires { ⌜ s ≤ 128 ⌝ }
+    ensures { λ r. ⌜ r ≡ some 129 (λ u. s below u and entry (now (dist .entry)) u is d) ⌝ }
+{
+    let mut u = s + 1;
+    while u <= 128 {
+        if dist[u - 1] == d {
+            return true;
+        }
+        u += 1;
+    }
+    false
+}
+
+// How far each vertex is from s, by walks with fewer than limit vertices on the way. A layer that marks nothing is the last.
+fn distances(m: &[u8], part: &[u8; 128], s: usize, limit: usize) -> [usize; 128]
+    requires { ⌜ (length (now m) ≡ 16384) × (1 ≤ s) × (s ≤ 128) × (1 ≤ limit) × (limit ≤ 128) ⌝ }
+    ensures { λ r. ⌜ Near (joined 128 (now (m .entry)) (now (part .entry))) s limit (entry r) ⌝ }
 {
     let mut dist = [128usize; 128];
     spread(&mut dist, m, part, s, 0);
     let mut d: usize = 0;
-    while d < 127 {
+    while d + 1 < limit {
+        if !reached(&dist, s, d) {
+            return dist;
+        }
         layer(&mut dist, m, part, s, d);
         d += 1;
     }
     dist
 }
 
-// How many vertices the shortest closed walk from s has besides s. A vertex that takes no part has none.
-fn around(m: &[u8], part: &[u8; 128], s: usize) -> usize
-    requires { ⌜ (length (now m) ≡ 16384) × (1 ≤ s) × (s ≤ 128) ⌝ }
-    ensures { λ r. ⌜ r ≡ far (joined 128 (now (m .entry)) (now (part .entry))) s 128 s ⌝ }
+// How many vertices the shortest closed walk from s has besides s, of those with fewer than limit; 128 where there is none. A vertex
+// that takes no part is on none, and no edge leads from a vertex to itself.
+fn around(m: &[u8], part: &[u8; 128], s: usize, limit: usize) -> usize
+    requires { ⌜ (length (now m) ≡ 16384) × (1 ≤ s) × (s ≤ 128) × (limit ≤ 128) ⌝ }
+    ensures { λ r. ⌜ r ≡ far (joined 128 (now (m .entry)) (now (part .entry))) s limit s ⌝ }
 {
     if part[s - 1] == 0 {
         return 128;
     }
-    let dist = distances(m, part, s);
+    if limit <= 1 {
+        return 128;
+    }
+    let dist = distances(m, part, s, limit);
     dist[s - 1]
 }
 
@@ -85,7 +107,7 @@ fn best(m: &[u8], part: &[u8; 128]) -> Ring
     let mut start: usize = 0;
     let mut s: usize = 1;
     while s <= 128 {
-        let k = around(m, part, s);
+        let k = around(m, part, s, len);
         if k < len {
             len = k;
             start = s;
@@ -136,7 +158,7 @@ pub fn cycle(out: &mut [u16], m: &[u8], part: &[u8; 128]) -> usize
     let ring = best(m, part);
     let len = ring.len;
     let start = ring.start;
-    let dist = distances(m, part, start);
+    let dist = distances(m, part, start, 128);
     out[0] = start as u16;
     trace(out, m, part, &dist, start, len);
     len + 1

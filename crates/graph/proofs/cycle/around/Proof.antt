@@ -1,8 +1,9 @@
 use mathlib.Core.Path.{sym}
 use native.Mathlib.Omega.{arith}
 use borrow.Author.Needs.{needs}
-use Rattle.graph.proofs.Marks.{none-from}
-use Rattle.graph.proofs.Far.{far-alone}
+use Rattle.graph.proofs.Truth.{to-false}
+use Rattle.graph.proofs.Marks.{none-from, no-loop}
+use Rattle.graph.proofs.Far.{far-alone, far-brief}
 use Rattle.graph.proofs.cycle.around.Statement.{statement}
 use Rattle.graph.proofs.cycle.around.Tie as tie
 
@@ -13,7 +14,10 @@ element-copy-out-if1 : tie.Need-element-copy-out-if1
 element-copy-out-if1 c = search needs
 
 returns : tie.Need-returns
-returns c = sym (far-alone _ _ 128 _ (λ u. none-from 128 _ _ _ u (c .if1 .taken)))
+returns c = sym (far-alone _ _ _ _ (λ u. none-from 128 _ _ _ u (c .if1 .taken)))
+
+returns-2 : tie.Need-returns-2
+returns-2 c = sym (far-brief _ _ _ (to-false _ (no-loop 128 _ _ _)) (c .if2 .taken))
 
 distances-requires : tie.Need-distances-requires
 distances-requires c κs = search needs
@@ -27,9 +31,9 @@ mul-result c = search needs
 array-read-result : tie.Need-array-read-result
 array-read-result c = search needs
 
-returns-2 : tie.Need-returns-2
-returns-2 c =
-    let here = c .before .before .before .before .args in
+returns-3 : tie.Need-returns-3
+returns-3 c =
+    let here = c .before .before .before .before .before .args in
     c .distances .ensures .each (here .s) (omega arith) (omega arith)
 
 pub around-spec : {M : Type 1} → statement M
@@ -39,8 +43,9 @@ around-spec =
     sub-if1
     element-copy-out-if1
     returns
+    returns-2
     distances-requires
     sub-result
     mul-result
     array-read-result
-    returns-2)
+    returns-3)

@@ -17,7 +17,7 @@ loop-holds : tie.Need-loop-holds Inv-loop μ-loop
 loop-holds c = (omega arith, omega arith, least-none _ 0)
 
 around-requires : tie.Need-around-requires Inv-loop μ-loop
-around-requires c κs = omega arith
+around-requires c κs = omega (arith, c .before .loop .inv .2 .bound)
 
 add-s : tie.Need-add-s Inv-loop μ-loop
 add-s c = omega arith
