@@ -52,6 +52,14 @@ module _ (edge : ℕ → ℕ → Bool) where
   pub far-brief : (s k : ℕ) → edge s s ≡ false → k ≤ 1 → far edge s k s ≡ 128
   far-brief s k none h = far-none s k s (λ (j : ℕ) (q : j < k). let z : j ≡ 0 = omega arith in rw z (unfold reach in none))
 
+  -- where no edge leads from s to a vertex above it, no walk leads back
+  pub far-sunk : (s k : ℕ) → edge s s ≡ false → some 129 (λ u. s below u and edge s u) ≡ false → far edge s k s ≡ 128
+  far-sunk s k none low = far-none s k s (λ j _. stays j)
+    where
+      stays : (j : ℕ) → reach edge s j s ≡ false
+      stays zero = unfold reach in none
+      stays (suc j) = to-false _ (λ h. let r = reach-on s s j h in not-both (→and (→below (r .2)) (r .3)) (none→ _ low (r .0) (r .1)))
+
   -- nothing shorter than the least reaches
   pub far-before : (s k t j : ℕ) → j < far edge s k t → j < k → j < 128 → reach edge s j t ≡ false
   far-before s k t j a b c = to-false _ (λ h. let z : far edge s k t ≤ j = far-le s k t j b c h in omega arith)

@@ -82,8 +82,23 @@ fn distances(m: &[u8], part: &[u8; 128], s: usize, limit: usize) -> [usize; 128]
     dist
 }
 
+// Whether an edge leads from s to a vertex above it.
+fn rises(m: &[u8], part: &[u8; 128], s: usize) -> bool
+    requires { ⌜ (length (now m) ≡ 16384) × (1 ≤ s) × (s ≤ 128) ⌝ }
+    ensures { λ r. ⌜ r ≡ some 129 (λ u. s below u and joined 128 (now (m .entry)) (now (part .entry)) s u) ⌝ }
+{
+    let mut u = s + 1;
+    while u <= 128 {
+        if joins(m, part, s, u) {
+            return true;
+        }
+        u += 1;
+    }
+    false
+}
+
 // How many vertices the shortest closed walk from s has besides s, of those with fewer than limit; 128 where there is none. A vertex
-// that takes no part is on none, and no edge leads from a vertex to itself.
+// that takes no part is on none, no edge leads from a vertex to itself, and the walk goes through vertices above s.
 fn around(m: &[u8], part: &[u8; 128], s: usize, limit: usize) -> usize
     requires { ⌜ (length (now m) ≡ 16384) × (1 ≤ s) × (s ≤ 128) × (limit ≤ 128) ⌝ }
     ensures { λ r. ⌜ r ≡ far (joined 128 (now (m .entry)) (now (part .entry))) s limit s ⌝ }
@@ -92,6 +107,9 @@ fn around(m: &[u8], part: &[u8; 128], s: usize, limit: usize) -> usize
         return 128;
     }
     if limit <= 1 {
+        return 128;
+    }
+    if !rises(m, part, s) {
         return 128;
     }
     let dist = distances(m, part, s, limit);
