@@ -3,12 +3,12 @@ use mathlib.Core.Path.{_≡_, refl, sym, ap, subst, fun-ext, _∙_}
 use mathlib.Core.Bool.{Bool, true, false}
 use mathlib.Core.Logic.{_⊎_, inl, inr, ⊎-elim}
 use mathlib.Core.List.{_∷_}
-use Prim.Native.Nat.{ℕ, suc, _+_, _≤_, _<_}
+use Prim.Native.Nat.{ℕ, zero, suc, _+_, _≤_, _<_}
 use native.Mathlib.Omega.{arith}
 use native.Mathlib.Numerals.{add-one}
 use Rattle.graph.specs.Tests.{_is_, _below_, _and_, some, lowest}
 use Rattle.graph.specs.Steps.{reach, pick, far, Marked, Near}
-use Rattle.graph.proofs.Truth.{decide, not-both, to-false, same-test, and→, →and, is→, →is, isnt→, below→, →below, not-below→, some→, →some, →none, lowest-is, lowest-at, lowest-le, lowest-none, lowest-passes, lowest-bound}
+use Rattle.graph.proofs.Truth.{decide, not-both, to-false, same-test, and→, →and, is→, →is, isnt→, below→, →below, not-below→, some→, →some, none→, →none, lowest-is, lowest-at, lowest-le, lowest-none, lowest-passes, lowest-bound}
 
 module _ (edge : ℕ → ℕ → Bool) where
   -- what `far` finds
@@ -40,15 +40,52 @@ module _ (edge : ℕ → ℕ → Bool) where
   unfolding reach
   reach-on s t k h = let r = some→ h in let q = and→ (r .2) in let o = and→ (q .0) in (r .0, r .1, below→ (o .0), o .1, q .1)
 
+  -- a vertex that no edge leaves is on no walk back
+  pub far-alone : (s k t : ℕ) → ((u : ℕ) → edge t u ≡ false) → far edge s k t ≡ 128
+  far-alone s k t none = far-none s k t (λ j _. stays j)
+    where
+      stays : (j : ℕ) → reach edge s j t ≡ false
+      stays zero = unfold reach in none s
+      stays (suc j) = to-false _ (λ h. let r = reach-on s t j h in not-both (r .3) (none (r .0)))
+
+  -- no edge leads from s to itself, so a closed walk has some vertex on the way
+  pub far-brief : (s k : ℕ) → edge s s ≡ false → k ≤ 1 → far edge s k s ≡ 128
+  far-brief s k none h = far-none s k s (λ (j : ℕ) (q : j < k). let z : j ≡ 0 = omega arith in rw z (unfold reach in none))
+
+  -- where no edge leads from s to a vertex above it, no walk leads back
+  pub far-sunk : (s k : ℕ) → edge s s ≡ false → some 129 (λ u. s below u and edge s u) ≡ false → far edge s k s ≡ 128
+  far-sunk s k none low = far-none s k s (λ j _. stays j)
+    where
+      stays : (j : ℕ) → reach edge s j s ≡ false
+      stays zero = unfold reach in none
+      stays (suc j) = to-false _ (λ h. let r = reach-on s s j h in not-both (→and (→below (r .2)) (r .3)) (none→ _ low (r .0) (r .1)))
+
   -- nothing shorter than the least reaches
   pub far-before : (s k t j : ℕ) → j < far edge s k t → j < k → j < 128 → reach edge s j t ≡ false
   far-before s k t j a b c = to-false _ (λ h. let z : far edge s k t ≤ j = far-le s k t j b c h in omega arith)
 
-  far-stays : (s k l t : ℕ) → far edge s k t < 128 → k ≤ l → far edge s l t ≡ far edge s k t
+  pub far-stays : (s k l t : ℕ) → far edge s k t < 128 → k ≤ l → far edge s l t ≡ far edge s k t
   far-stays s k l t h m =
       let r = far-reach s k t h in
       let z : far edge s k t < k = r .1 in
       far-at s l t (far edge s k t) (omega arith) h (r .0) (λ (i : ℕ) (q : i < far edge s k t). far-before s k t i q (omega arith) (omega arith))
+
+  -- what no walk with fewer than k on the way reaches is k away at least
+  pub far-past : (s k l t : ℕ) → k ≤ 128 → k ≤ far edge s k t → k ≤ far edge s l t
+  far-past s k l t small h =
+      ⊎-elim (λ (q : (far edge s l t below k) ≡ true).
+      let z : far edge s l t < k = below→ q in
+      let x : far edge s k t ≤ far edge s l t = far-le s k t (far edge s l t) z (omega arith) (far-reach s l t (omega arith) .0) in
+      absurd (omega arith))
+      (λ (q : (far edge s l t below k) ≡ false). not-below→ q) (decide (far edge s l t below k))
+
+  -- walks up to k and up to l find the same, where the longer ones reach nothing new
+  far-same : (s k l t : ℕ) → k ≤ l → ((j : ℕ) → reach edge s j t ≡ true → far edge s k t < 128) → far edge s k t ≡ far edge s l t
+  far-same s k l t m found =
+      ⊎-elim (λ (q : (far edge s k t below 128) ≡ true). sym (far-stays s k l t (below→ q) m))
+      (λ (q : (far edge s k t below 128) ≡ false).
+      let z : far edge s k t ≡ 128 = omega (arith, far-bound s k t, not-below→ q) in
+      z ∙ sym (far-none s l t (λ j _. to-false _ (λ h. let x : far edge s k t < 128 = found j h in omega arith)))) (decide (far edge s k t below 128))
 
 pub near-at : {edge : ℕ → ℕ → Bool} {s k : ℕ} {f : ℕ → ℕ} → Near edge s k f → (l : ℕ) → k ≡ l → Near edge s l f
 near-at n l e = rw (← e) n
@@ -109,6 +146,22 @@ module _ (edge : ℕ → ℕ → Bool) (ends : (a b : ℕ) → edge a b ≡ true
           none z j l =
               ⊎-elim (λ (q : (j below suc d) ≡ true). old t e z j (below→ q))
               (λ (q : (j below suc d) ≡ false). let eq : j ≡ suc d = omega (arith, not-below→ q) in rw eq (last z)) (decide (j below suc d))
+
+  -- the last layer: where none above s has d, no walk with more on the way reaches any vertex anew
+  pub near-end : (d l : ℕ) → d + 1 ≤ l → l ≤ 128 → {f : ℕ → ℕ} → Near edge s (d + 1) f → some 129 (λ u. s below u and f u is d) ≡ false → Near edge s l f
+  near-end d l long small {f} n none = record { each = λ t x y. n .each t x y ∙ far-same edge s (d + 1) l t long (λ (j : ℕ) (h : reach edge s j t ≡ true). let z : far edge s (d + 1) t ≤ d = found j t h in omega arith) }
+    where
+      found : (j t : ℕ) → reach edge s j t ≡ true → far edge s (d + 1) t ≤ d
+      found zero t h = let z : far edge s (d + 1) t ≤ 0 = far-le edge s (d + 1) t 0 (omega arith) (omega arith) h in omega arith
+      found (suc j) t h =
+          let r = reach-on edge s t j h in
+          let u : ℕ = r .0 in
+          let w = ends t u (r .3) in
+          let le : far edge s (d + 1) u ≤ d = found j u (r .4) in
+          let new : far edge s (d + 1) u ≡ d → ⊥ = λ (e : far edge s (d + 1) u ≡ d). not-both (→and (→below (r .2)) (→is (n .each u (w .0) (w .1) ∙ e))) (none→ _ none u (r .1)) in
+          let lt : far edge s (d + 1) u < d = omega (arith, new) in
+          let z : far edge s (d + 1) t ≤ suc (far edge s (d + 1) u) = far-le edge s (d + 1) t (suc (far edge s (d + 1) u)) (omega arith) (omega arith) (reach-next edge s t u (far edge s (d + 1) u) (r .2) (r .1) (r .3) (far-reach edge s (d + 1) u (omega arith) .0)) in
+          omega arith
 
   -- the next on the lowest way: the lowest above s to which an edge leads and that is one nearer
   module _ {f : ℕ → ℕ} (n : Near edge s 128 f) (a k : ℕ) (short : k + 1 < 128) (at : far edge s 128 a ≡ k + 1) where

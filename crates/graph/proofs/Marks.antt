@@ -58,6 +58,9 @@ module _ (n : ℕ) (m part : List ℕ) where
   pub ends-to : (a b : ℕ) → joined n m part a b ≡ true → (1 ≤ b) × (b ≤ n)
   ends-to a b h = let p = part→ n part b (joined→ n m part a b h .to) in (p .low, p .high)
 
+  pub none-from : (a b : ℕ) → getD part (a - 1) 0 ≡ 0 → joined n m part a b ≡ false
+  none-from a b out = to-false _ (λ h. part→ n part a (joined→ n m part a b h .from) .mark out)
+
   pub no-loop : (a : ℕ) → joined n m part a a ≡ true → ⊥
   no-loop a h = joined→ n m part a a h .differ refl
 

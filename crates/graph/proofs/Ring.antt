@@ -15,28 +15,30 @@ use Rattle.graph.proofs.Truth.{to-false, and→, some→}
 use Rattle.graph.proofs.Marks.{ends-from, no-loop}
 use Rattle.graph.proofs.Sized.{cycle-size}
 use Rattle.graph.proofs.Shortest.{way-reach, cycle-way, pick-way, shortest-first}
-use Rattle.graph.proofs.Far.{far-reach, far-le, far-bound, onward-pick}
+use Rattle.graph.proofs.Far.{far-reach, far-le, far-stays, far-past, onward-pick}
 use Rattle.graph.proofs.Laid.{laid-none, laid-more, laid-front}
 
--- no start was tried, and one more
+-- no start was tried, and one more, from which only walks shorter than the least so far are looked for
 pub least-none : (edge : ℕ → ℕ → Bool) (s : ℕ) → Least edge 1 128 s
 least-none edge s = record { bound = omega arith; home = λ h. absurd (omega arith); best = λ t a b. absurd (omega arith) }
 
-module _ {edge : ℕ → ℕ → Bool} {e k s : ℕ} (l : Least edge e k s) (h : ℕ) (is-home : h ≡ far edge e 128 e) where
+module _ {edge : ℕ → ℕ → Bool} {e k s : ℕ} (l : Least edge e k s) (h : ℕ) (is-home : h ≡ far edge e k e) where
   pub least-lower : 1 ≤ e → h < k → Least edge (e + 1) h e
   least-lower low lt =
+      let all : far edge e 128 e ≡ h = far-stays edge e k 128 e (omega (arith, l .bound)) (l .bound) ∙ sym is-home in
       record {
-        bound = omega (arith, far-bound edge e 128 e);
-        home = λ _. (low, omega arith, sym is-home);
+        bound = omega (arith, l .bound);
+        home = λ _. (low, omega arith, all);
         best = below-more _ _ (λ t b a. let r = l .best t b a in (omega (arith, r .0), λ (z : far edge t 128 t ≡ h) _. absurd (omega (arith, r .0)))) (λ a. (omega arith, λ _ _. omega arith));
       }
 
   pub least-same : k ≤ h → Least edge (e + 1) k s
   least-same le =
+      let past : k ≤ far edge e 128 e = far-past edge e k 128 e (l .bound) (omega arith) in
       record {
         bound = l .bound;
         home = λ q. let r = l .home q in (r .0, omega (arith, r .1), r .2);
-        best = below-more _ _ (l .best) (λ a. (omega arith, λ _ q. let r : s < e = l .home q .1 in omega arith));
+        best = below-more _ _ (l .best) (λ a. (past, λ _ q. let r : s < e = l .home q .1 in omega arith));
       }
 
 pub least-all : {edge : ℕ → ℕ → Bool} {e k s : ℕ} → Least edge e k s → e ≡ 129 → Least edge 129 k s

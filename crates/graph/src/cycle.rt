@@ -17,56 +17,103 @@ struct Ring {
     start: usize,
 }
 
-// dist, with mark for each vertex that has 128 there and an edge to v.
-fn spread(m: &[u8], part: &[u8; 128], dist: [usize; 128], v: usize, mark: usize) -> [usize; 128]
-    requires { ⌜ (length (now m) ≡ 16384) × (1 ≤ v) × (v ≤ 128) × (mark < 128) ⌝ }
-    ensures { λ r. ⌜ Marked (λ t. joined 128 (now (m .entry)) (now (part .entry)) t v) mark (entry dist) (entry r) ⌝ }
+// Puts mark into dist for each vertex that has 128 there and an edge to v.
+fn spread(dist: &mut [usize], m: &[u8], part: &[u8; 128], v: usize, mark: usize)
+    requires { ⌜ (length (now dist) ≡ 128) × (length (now m) ≡ 16384) × (1 ≤ v) × (v ≤ 128) × (mark < 128) ⌝ }
+    ensures { λ _. ⌜ Marked (λ t. joined 128 (now (m .entry)) (now (part .entry)) t v) mark (entry (now (dist .entry))) (entry (now (dist .exit))) ⌝ }
 {
-    let mut next = dist;
     let mut u: usize = 1;
     while u <= 128 {
-        if next[u - 1] == 128 {
+        if dist[u - 1] == 128 {
             if joins(m, part, u, v) {
-                next[u - 1] = mark;
+                dist[u - 1] = mark;
             }
         }
         u += 1;
     }
-    next
 }
 
-// dist, with d + 1 for each vertex that has 128 there and an edge to one above s that has d.
-fn layer(m: &[u8], part: &[u8; 128], dist: [usize; 128], s: usize, d: usize) -> [usize; 128]
-    requires { ⌜ (length (now m) ≡ 16384) × (d + 1 < 128) ⌝ }
-    ensures { λ r. ⌜ Marked (λ t. some 129 (λ u. s below u and entry dist u is d and joined 128 (now (m .entry)) (now (part .entry)) t u)) (d + 1) (entry dist) (entry r) ⌝ }
+// Puts d + 1 into dist for each vertex that has 128 there and an edge to one above s that has d.
+fn layer(dist: &mut [usize], m: &[u8], part: &[u8; 128], s: usize, d: usize)
+    requires { ⌜ (length (now dist) ≡ 128) × (length (now m) ≡ 16384) × (d + 1 < 128) ⌝ }
+    ensures { λ _. ⌜ Marked (λ t. some 129 (λ u. s below u and entry (now (dist .entry)) u is d and joined 128 (now (m .entry)) (now (part .entry)) t u)) (d + 1) (entry (now (dist .entry))) (entry (now (dist .exit))) ⌝ }
 {
-    let mut next = dist;
     let mut u: usize = 1;
     while u <= 128 {
         if s < u {
-            if next[u - 1] == d {
-                let more = spread(m, part, next, u, d + 1);
-                next = more;
+            if dist[u - 1] == d {
+                spread(dist, m, part, u, d + 1);
             }
         }
         u += 1;
     }
-    next
 }
 
-// How far each vertex is from s.
-fn distances(m: &[u8], part: &[u8; 128], s: usize) -> [usize; 128]
-    requires { ⌜ (length (now m) ≡ 16384) × (1 ≤ s) × (s ≤ 128) ⌝ }
-    ensures { λ r. ⌜ Near (joined 128 (now (m .entry)) (now (part .entry))) s 128 (entry r) ⌝ }
+// Whether some vertex above s has d in dist.
+fn reached(dist: &[usize; 128], s: usize, d: usize) -> bool
+    requires { ⌜ s ≤ 128 ⌝ }
+    ensures { λ r. ⌜ r ≡ some 129 (λ u. s below u and entry (now (dist .entry)) u is d) ⌝ }
 {
-    let mut dist = spread(m, part, [128usize; 128], s, 0);
+    let mut u = s + 1;
+    while u <= 128 {
+        if dist[u - 1] == d {
+            return true;
+        }
+        u += 1;
+    }
+    false
+}
+
+// How far each vertex is from s, by walks with fewer than limit vertices on the way. A layer that marks nothing is the last.
+fn distances(m: &[u8], part: &[u8; 128], s: usize, limit: usize) -> [usize; 128]
+    requires { ⌜ (length (now m) ≡ 16384) × (1 ≤ s) × (s ≤ 128) × (1 ≤ limit) × (limit ≤ 128) ⌝ }
+    ensures { λ r. ⌜ Near (joined 128 (now (m .entry)) (now (part .entry))) s limit (entry r) ⌝ }
+{
+    let mut dist = [128usize; 128];
+    spread(&mut dist, m, part, s, 0);
     let mut d: usize = 0;
-    while d < 127 {
-        let more = layer(m, part, dist, s, d);
-        dist = more;
+    while d + 1 < limit {
+        if !reached(&dist, s, d) {
+            return dist;
+        }
+        layer(&mut dist, m, part, s, d);
         d += 1;
     }
     dist
+}
+
+// Whether an edge leads from s to a vertex above it.
+fn rises(m: &[u8], part: &[u8; 128], s: usize) -> bool
+    requires { ⌜ (length (now m) ≡ 16384) × (1 ≤ s) × (s ≤ 128) ⌝ }
+    ensures { λ r. ⌜ r ≡ some 129 (λ u. s below u and joined 128 (now (m .entry)) (now (part .entry)) s u) ⌝ }
+{
+    let mut u = s + 1;
+    while u <= 128 {
+        if joins(m, part, s, u) {
+            return true;
+        }
+        u += 1;
+    }
+    false
+}
+
+// How many vertices the shortest closed walk from s has besides s, of those with fewer than limit; 128 where there is none. A vertex
+// that takes no part is on none, no edge leads from a vertex to itself, and the walk goes through vertices above s.
+fn around(m: &[u8], part: &[u8; 128], s: usize, limit: usize) -> usize
+    requires { ⌜ (length (now m) ≡ 16384) × (1 ≤ s) × (s ≤ 128) × (limit ≤ 128) ⌝ }
+    ensures { λ r. ⌜ r ≡ far (joined 128 (now (m .entry)) (now (part .entry))) s limit s ⌝ }
+{
+    if part[s - 1] == 0 {
+        return 128;
+    }
+    if limit <= 1 {
+        return 128;
+    }
+    if !rises(m, part, s) {
+        return 128;
+    }
+    let dist = distances(m, part, s, limit);
+    dist[s - 1]
 }
 
 // The shortest closed walk, and of these the one whose lowest vertex is lowest.
@@ -78,8 +125,7 @@ fn best(m: &[u8], part: &[u8; 128]) -> Ring
     let mut start: usize = 0;
     let mut s: usize = 1;
     while s <= 128 {
-        let dist = distances(m, part, s);
-        let k = dist[s - 1];
+        let k = around(m, part, s, len);
         if k < len {
             len = k;
             start = s;
@@ -130,7 +176,7 @@ pub fn cycle(out: &mut [u16], m: &[u8], part: &[u8; 128]) -> usize
     let ring = best(m, part);
     let len = ring.len;
     let start = ring.start;
-    let dist = distances(m, part, start);
+    let dist = distances(m, part, start, 128);
     out[0] = start as u16;
     trace(out, m, part, &dist, start, len);
     len + 1

@@ -16,17 +16,8 @@ abbrev μ-loop : tie.MeasureT-loop
 loop-holds : tie.Need-loop-holds Inv-loop μ-loop
 loop-holds c = (omega arith, omega arith, least-none _ 0)
 
-distances-requires : tie.Need-distances-requires Inv-loop μ-loop
-distances-requires c κs = omega arith
-
-sub-k : tie.Need-sub-k Inv-loop μ-loop
-sub-k c = omega arith
-
-mul-k : tie.Need-mul-k Inv-loop μ-loop
-mul-k c = omega arith
-
-array-read-k : tie.Need-array-read-k Inv-loop μ-loop
-array-read-k c = omega arith
+around-requires : tie.Need-around-requires Inv-loop μ-loop
+around-requires c κs = omega (arith, c .before .loop .inv .2 .bound)
 
 add-s : tie.Need-add-s Inv-loop μ-loop
 add-s c = omega arith
@@ -37,7 +28,7 @@ loop-less c = omega arith
 loop-again : tie.Need-loop-again Inv-loop μ-loop
 loop-again c =
     let at = c .before .before .before .loop in
-    let home = c .before .distances .ensures .each (at .s) (omega arith) (omega arith) in (
+    let home = c .before .around .ensures in (
       omega arith,
       omega arith,
       ⊎-elim (λ w. rw (w .1, w .2) (least-lower (at .inv .2) _ home (omega arith) (w .0 .taken))) (λ w. rw (w .1, w .2) (least-same (at .inv .2) _ home (w .0 .left))) (c .if1 .came),
@@ -53,10 +44,7 @@ best-spec =
     Inv-loop
     μ-loop
     loop-holds
-    distances-requires
-    sub-k
-    mul-k
-    array-read-k
+    around-requires
     add-s
     loop-less
     loop-again

@@ -12,7 +12,7 @@ distances-requires : tie.Need-distances-requires
 distances-requires c κs =
     let here = c .before .before .before .pre in
     let r = ring-found _ _ (c .best .ensures) (here .2 .0) (here .2 .1) in
-    (here .1, r .0, r .1)
+    (here .1, r .0, r .1, omega arith, omega arith)
 
 cast-out : tie.Need-cast-out
 cast-out c =

@@ -13,13 +13,13 @@ use Rattle.graph.proofs.cycle.spread.Statement.{statement}
 use Rattle.graph.proofs.cycle.spread.Tie as tie
 
 abbrev Inv-loop : tie.InvT-loop
-Inv-loop m part v mark next₀ u₀ next u = (1 ≤ u) × (u ≤ 129) × (length next ≡ 128) × Marked (λ t. t below u and joined 128 m part t v) mark (entry next₀) (entry next)
+Inv-loop dist₀ m part v mark u₀ dist u = (1 ≤ u) × (u ≤ 129) × (length dist ≡ 128) × Marked (λ t. t below u and joined 128 m part t v) mark (entry dist₀) (entry dist)
 
 abbrev μ-loop : tie.MeasureT-loop
-μ-loop m part v mark next₀ u₀ next u = 129 - u
+μ-loop dist₀ m part v mark u₀ dist u = 129 - u
 
 loop-holds : tie.Need-loop-holds Inv-loop μ-loop
-loop-holds c = (omega arith, omega arith, search needs, record { each = λ t a b. inr (refl, λ _. to-false _ (λ h. omega (arith, below→ (and→ h .0)))) })
+loop-holds c = (omega arith, omega arith, omega arith, record { each = λ t a b. inr (refl, λ _. to-false _ (λ h. omega (arith, below→ (and→ h .0)))) })
 
 sub-if1 : tie.Need-sub-if1 Inv-loop μ-loop
 sub-if1 c = omega arith
@@ -27,20 +27,20 @@ sub-if1 c = omega arith
 mul-if1 : tie.Need-mul-if1 Inv-loop μ-loop
 mul-if1 c = omega arith
 
-array-read-if1 : tie.Need-array-read-if1 Inv-loop μ-loop
-array-read-if1 c = omega arith
+slice-read-if1 : tie.Need-slice-read-if1 Inv-loop μ-loop
+slice-read-if1 c = omega arith
 
 joins-requires : tie.Need-joins-requires Inv-loop μ-loop
 joins-requires c κs = omega arith
 
-sub-next : tie.Need-sub-next Inv-loop μ-loop
-sub-next c = omega arith
+sub-dist : tie.Need-sub-dist Inv-loop μ-loop
+sub-dist c = omega arith
 
-mul-next : tie.Need-mul-next Inv-loop μ-loop
-mul-next c = omega arith
+mul-dist : tie.Need-mul-dist Inv-loop μ-loop
+mul-dist c = omega arith
 
-array-write-next : tie.Need-array-write-next Inv-loop μ-loop
-array-write-next c = omega arith
+slice-write-dist : tie.Need-slice-write-dist Inv-loop μ-loop
+slice-write-dist c = omega arith
 
 add-u : tie.Need-add-u Inv-loop μ-loop
 add-u c = omega arith
@@ -50,14 +50,17 @@ loop-less c = omega arith
 
 loop-again : tie.Need-loop-again Inv-loop μ-loop
 loop-again c =
-    let at = c .before .before .loop in (
+    let at = c .before .before .before .loop in (
       omega arith,
       omega arith,
       ⊎-elim (λ w. ap length (w .3) ∙ simp length-set (at .inv .2)) (⊎-elim (λ w. ap length (w .3) ∙ at .inv .2) (λ w. ap length (w .1) ∙ at .inv .2)) (c .if1 .came),
-      ⊎-elim (λ w. rw (w .3) (marked-here _ _ (omega arith) (at .next) (at .inv .2) (at .u) (at .inv .3) (omega arith) (omega arith) (w .0 .taken) (sym (w .1 .ensures) ∙ w .2 .taken)))
-          (⊎-elim (λ w. rw (w .3) (marked-not _ _ (omega arith) (at .next) (at .inv .2) (at .u) (at .inv .3) (λ _. sym (w .1 .ensures) ∙ w .2 .left)))
-          (λ w. rw (w .1) (marked-not _ _ (omega arith) (at .next) (at .inv .2) (at .u) (at .inv .3) (λ e. absurd (w .0 .left e))))) (c .if1 .came),
+      ⊎-elim (λ w. rw (w .3) (marked-here _ _ (omega arith) (at .dist) (at .inv .2) (at .u) (at .inv .3) (omega arith) (omega arith) (w .0 .taken) (sym (w .1 .ensures) ∙ w .2 .taken)))
+          (⊎-elim (λ w. rw (w .3) (marked-not _ _ (omega arith) (at .dist) (at .inv .2) (at .u) (at .inv .3) (λ _. sym (w .1 .ensures) ∙ w .2 .left)))
+          (λ w. rw (w .1) (marked-not _ _ (omega arith) (at .dist) (at .inv .2) (at .u) (at .inv .3) (λ e. absurd (w .0 .left e))))) (c .if1 .came),
     )
+
+same-length : tie.Need-same-length Inv-loop μ-loop
+same-length c = omega arith
 
 returns : tie.Need-returns Inv-loop μ-loop
 returns c = marked-all _ (c .before .loop .inv .3) (omega arith)
@@ -71,12 +74,13 @@ spread-spec =
     loop-holds
     sub-if1
     mul-if1
-    array-read-if1
+    slice-read-if1
     joins-requires
-    sub-next
-    mul-next
-    array-write-next
+    sub-dist
+    mul-dist
+    slice-write-dist
     add-u
     loop-less
     loop-again
+    same-length
     returns)
