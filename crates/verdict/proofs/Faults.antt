@@ -2,12 +2,11 @@
 use mathlib.Core.Path.{_≡_, refl, sym, ap, _∙_}
 use mathlib.Core.Bool.{Bool, true, false}
 use mathlib.Core.List.{List}
-use Prim.Native.Nat.{ℕ, _+_, _≤_, _<_}
-use native.Mathlib.Numerals.{add-one}
+use Prim.Native.Nat.{ℕ, _≤_, _<_}
 use native.Mathlib.Omega.{arith}
-use Rattle.graph.specs.Tests.{_is_, _below_, _upto_, _and_, _or_, fails, some, lowest}
-use Rattle.graph.proofs.Truth.{to-true, →and, and-no-left, and-no-right, and-true, →or-left, or-false, →fails, →not-fails, →is, →isnt, if-true, if-false, lowest-none, lowest-some, some-same}
-use Rattle.verdict.specs.Log.{steps, obj, src, writes, committed, aborted}
+use Rattle.graph.specs.Tests.{fails, lowest}
+use Rattle.graph.proofs.Truth.{to-true, →and, and-no-left, and-no-right, and-true, →or-left, or-false, →fails, →not-fails, →is, →isnt, if-true, if-false, lowest-none, lowest-some}
+use Rattle.verdict.specs.Log.{steps, obj, src, committed, aborted}
 use Rattle.verdict.specs.Said.{said-fault, said-clean}
 use Rattle.verdict.specs.declared.Fault as code
 use Rattle.verdict.specs.declared.CleanAnswer.{CleanAnswer}
@@ -36,11 +35,6 @@ module _ (log : List ℕ) (i : ℕ) where
         twice : (b : Bool) → fails (fails b) ≡ b
         twice true = unfold fails in refl
         twice false = unfold fails in refl
-
--- the steps later than i are those from i + 1 on
-pub later-from : (log : List ℕ) (i t x : ℕ) → writes-later log i t x ≡ some (steps log) (λ j. i + 1 upto j and writes log t x j)
-unfolding writes-later _below_ _upto_
-later-from log i t x = some-same (steps log) _ _ (λ j h. ap (λ (b : Bool). b and writes log t x j) (rw (add-one i) refl))
 
 -- the verdict, by the lowest faulty step
 module _ (log : List ℕ) where

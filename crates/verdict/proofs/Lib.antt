@@ -10,6 +10,7 @@ pub mod Marks
 pub mod SnapshotLaws
 pub mod Loosely
 pub mod Noting
+pub mod LastWrites
 pub mod Matrices
 pub mod Versions
 pub mod ConflictGraph

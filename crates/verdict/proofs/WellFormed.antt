@@ -7,7 +7,7 @@ use Prim.Native.Nat.{ℕ, zero, suc, _≤_, _<_}
 use native.Mathlib.Omega.{arith}
 use native.Mathlib.Nat.{not-suc-le-zero}
 use Rattle.graph.specs.Tests.{_is_, _below_, _upto_, _and_, _or_, fails}
-use Rattle.verdict.specs.Limits.{transactions, objects}
+use Rattle.verdict.specs.Limits.{transactions, objects, most-steps}
 use Rattle.verdict.specs.Log.{steps, kind, tx, obj, src, commits, writer}
 use Rattle.verdict.specs.Refusal.{Refusal, taken, refused, _at_when_, _else-try_, tried, object-allowed, source-allowed, begun, ended, wrote, range-refusal, life-refusal, source-refusal, step-refusal, log-refusal}
 use Rattle.verdict.specs.Walk.{InRange}
@@ -79,6 +79,10 @@ module _ (log : List ℕ) (well : log-refusal log ≡ taken) where
   step-taken : (i : ℕ) → i < steps log → step-refusal log i ≡ taken
   unfolding log-refusal
   step-taken = tried→ _ (else-try→ (else-try→ (else-try→ well .1) .1) .0)
+
+  pub steps-within : steps log ≤ most-steps
+  unfolding log-refusal
+  steps-within = not-below→ (when→ 2 0 _ (else-try→ (else-try→ well .1) .0))
 
   -- the tests that the theorems rest on fail at each step
   module _ (i : ℕ) (h : i < steps log) where

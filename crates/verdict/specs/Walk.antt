@@ -2,13 +2,13 @@
 use mathlib.Core.Path.{_≡_}
 use mathlib.Core.Bool.{Bool, false}
 use mathlib.Core.List.{List, [], _∷_}
-use Prim.Native.Nat.{ℕ, suc, _+_, _-_, _*_, _/_, _%_, _≤_, _<_}
+use Prim.Native.Nat.{ℕ, zero, suc, _+_, _-_, _*_, _/_, _%_, _≤_, _<_}
 use lib.ListN.{length, getD, set, take, drop}
 use Rattle.graph.specs.Tests.{_is_, _below_, _upto_, _and_, _or_, fails, if_then_else_, some, lowest}
 use Rattle.graph.specs.Shows.{Shown, Shows}
 use Rattle.graph.specs.Matrix.{takes-part}
 use Rattle.verdict.specs.Limits.{transactions, objects, work-bytes}
-use Rattle.verdict.specs.Log.{steps, kind, tx, obj, src, committed, commit-step}
+use Rattle.verdict.specs.Log.{steps, kind, tx, obj, src, writes, committed, commit-step}
 use Rattle.verdict.specs.Conflict.{meet}
 use Rattle.verdict.specs.Version.{next-commit}
 use Rattle.verdict.specs.Next.{Next, up-to-zero, from-zero, list-refusal}
@@ -43,6 +43,15 @@ module _ (log : List ℕ) where
 -- the marks say of each number below n whether it passes
 pub record Marked (n : ℕ) (passes : ℕ → Bool) (marks : List ℕ) : Type 0 where
   pub mark : (c : ℕ) → c < n → fails (getD marks c 0 is 0) ≡ passes c
+
+-- 1 and the last number below n that passes; 0 where none does
+unfoldable pub latest : ℕ → (ℕ → Bool) → ℕ
+latest zero p = 0
+latest (suc n) p = if p n then suc n else latest n p
+
+-- the table has, for each transaction and object, 1 and the last of the first n steps that writes it
+pub record LastWrites (log : List ℕ) (n : ℕ) (table : List ℕ) : Type 0 where
+  pub entry : (t x : ℕ) → t ≤ transactions → x < objects → getD table (t * objects + x) 0 ≡ latest n (writes log t x)
 
 -- 11 for one transaction, by the marks of who has begun and who has ended
 unfoldable pub open-by-marks : (begins ends : List ℕ) → ℕ → Refusal

@@ -2,25 +2,66 @@
 use crate::Checked;
 use crate::CleanAnswer;
 use crate::Fault;
+use crate::edges::committed_ones;
+use crate::edges::takes_part;
+use crate::limits::Object;
+use crate::limits::Transaction;
 use crate::refusal::admit;
 use crate::walk::clear;
+use crate::walk::index;
 use crate::walk::seen;
-use crate::walk::writes_within;
 ghost use mathlib.Core.Path.{_≡_};
-ghost use Prim.Native.Nat.{_≤_, _+_, _*_};
-ghost use lib.ListN.{length};
+ghost use Prim.Native.Nat.{_≤_, _<_, _+_, _*_};
+ghost use lib.ListN.{length, getD};
 ghost use Rattle.graph.specs.Tests.{lowest};
+ghost use Rattle.verdict.specs.Limits.{transactions, objects};
 ghost use Rattle.verdict.specs.Log.{steps};
+ghost use Rattle.verdict.specs.Refusal.{taken, log-refusal};
 ghost use Rattle.verdict.specs.Clean.{faulty-read, cleanness};
 ghost use Rattle.verdict.specs.Said.{said-clean};
 ghost use Rattle.verdict.specs.Call.{CleanCall};
+ghost use Rattle.verdict.specs.Walk.{Committed, LastWrites};
 
-// Whether step i is a judged read from another whose source is not final.
-fn is_faulty(log: &[u16], i: usize) -> bool
-    requires { ⌜ 4 * i + 4 ≤ length (now log) ⌝ }
-    ensures { λ r. ⌜ r ≡ faulty-read (now (log .entry)) i ⌝ }
+// For each transaction and object, 1 and the last step that writes it, or 0 where there is none.
+fn last_writes(log: &[u16]) -> [u16; Transaction::PAIRS]
+    requires { ⌜ log-refusal (now log) ≡ taken ⌝ }
+    ensures { λ r. ⌜ LastWrites (now (log .entry)) (steps (now (log .entry))) r ⌝ }
 {
     let n = log.len() / 4;
+    let mut table = [0u16; Transaction::PAIRS];
+    let mut i = 0;
+    while i < n {
+        if log[4 * i] == 3 {
+            let t = index(log[4 * i + 1]);
+            let x = index(log[4 * i + 2]);
+            table[t * Object::TABLE + x] = (i + 1) as u16;
+        }
+        i += 1;
+    }
+    table
+}
+
+// The table's entry for t and x.
+fn last_write(last: &[u16; Transaction::PAIRS], t: u16, x: u16) -> usize
+    requires { ⌜ (t ≤ transactions) × (x < objects) ⌝ }
+    ensures { λ r. ⌜ r ≡ getD (now (last .entry)) (t * objects + x) 0 ⌝ }
+{
+    let row = index(t);
+    let column = index(x);
+    index(last[row * Object::TABLE + column])
+}
+
+// Whether step i is a judged read from another whose source is not final, by who committed and by the last writes.
+fn is_faulty(
+    log: &[u16],
+    i: usize,
+    part: &[u8; Transaction::COUNT],
+    last: &[u16; Transaction::PAIRS],
+) -> bool
+    requires { ⌜ (log-refusal (now log) ≡ taken) × (4 * i + 4 ≤ length (now log)) × Committed (now log) (now part)
+        × LastWrites (now log) (steps (now log)) (now last) ⌝ }
+    ensures { λ r. ⌜ r ≡ faulty-read (now (log .entry)) i ⌝ }
+{
     if log[4 * i] != 2 {
         return false;
     }
@@ -32,23 +73,29 @@ fn is_faulty(log: &[u16], i: usize) -> bool
     if s == 0 {
         return false;
     }
-    if !seen(log, n, 4, t) {
+    if !takes_part(part, t) {
         return false;
     }
-    if !seen(log, n, 4, s) {
+    if !takes_part(part, s) {
         return true;
     }
-    writes_within(log, i + 1, n, s, log[4 * i + 2])
+    if i + 1 < last_write(last, s, log[4 * i + 2]) {
+        return true;
+    }
+    false
 }
 
 // The lowest faulty step, or the number of steps where there is none.
 fn first_fault(log: &[u16]) -> usize
+    requires { ⌜ log-refusal (now log) ≡ taken ⌝ }
     ensures { λ r. ⌜ r ≡ lowest (steps (now (log .entry))) (faulty-read (now (log .entry))) ⌝ }
 {
+    let part = committed_ones(log);
+    let last = last_writes(log);
     let n = log.len() / 4;
     let mut i = 0;
     while i < n {
-        if is_faulty(log, i) {
+        if is_faulty(log, i, &part, &last) {
             return i;
         }
         i += 1;
@@ -56,8 +103,9 @@ fn first_fault(log: &[u16]) -> usize
     i
 }
 
-// The clean verdict of any log.
+// The clean verdict of a well-formed log.
 pub fn judge_clean(log: &[u16]) -> CleanAnswer
+    requires { ⌜ log-refusal (now log) ≡ taken ⌝ }
     ensures { λ r. ⌜ r ≡ said-clean (cleanness (now (log .entry))) ⌝ }
 {
     let n = log.len() / 4;

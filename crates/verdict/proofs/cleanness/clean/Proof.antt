@@ -23,7 +23,8 @@ clear-requires : tie.Need-clear-requires
 clear-requires c κs = search needs
 
 judge-clean-requires : tie.Need-judge-clean-requires
-judge-clean-requires c κs = search needs
+unfolding said-refusal work-refusal
+judge-clean-requires c κs = else-try→ (said-passed _ (sym (c .before .before .before .before .before .before .admit .ensures) ∙ c .before .before .before .before .enum-told .given .1)) .1
 
 returns : tie.Need-returns
 unfolding said-refusal work-refusal

@@ -36,7 +36,11 @@ clear-witness-requires : tie.Need-clear-witness-requires
 clear-witness-requires c κs = search needs
 
 judge-clean-requires : tie.Need-judge-clean-requires
-judge-clean-requires c κs = search needs
+unfolding said-refusal work-refusal witness-refusal search-refusal
+judge-clean-requires c κs =
+    let here = c .before .before .before .before .before .before .before .before .before .before .before .before .before .before in
+    let log : List ℕ = here .args .log .now in
+    else-try→ (admitted (log-refusal log else-try search-refusal log) (here .args .work .now) (here .args .witness .now) (c .before .before .before .before .before .before .before .before .before .before .admit-search .ensures) (c .before .before .before .before .before .before .before .before .enum-told .given .1) .well) .0
 
 enum-known-judged : tie.Need-enum-known-judged
 enum-known-judged c = search needs
