@@ -28,7 +28,7 @@ module _ (edge : ℕ → ℕ → Bool) where
   unfolding far
   far-none s k t f = lowest-none _ (→none _ (λ j l. to-false _ (λ q. not-both (and→ q .1) (f j (below→ (and→ q .0))))))
 
-  pub far-bound : (s k t : ℕ) → far edge s k t ≤ 128
+  far-bound : (s k t : ℕ) → far edge s k t ≤ 128
   unfolding far
   far-bound s k t = lowest-bound _
 

@@ -36,7 +36,8 @@ fn spread(dist: &mut [usize], m: &[u8], part: &[u8; 128], v: usize, mark: usize)
 // Puts d + 1 into dist for each vertex that has 128 there and an edge to one above s that has d.
 fn layer(dist: &mut [usize], m: &[u8], part: &[u8; 128], s: usize, d: usize)
     requires { ⌜ (length (now dist) ≡ 128) × (length (now m) ≡ 16384) × (d + 1 < 128) ⌝ }
-    ensures { λ _. ⌜ Marked (λ t. some 129 (λ u. s below u and entry (now (dist .entry)) u is d and joined 128 (now (m .entry)) (now (part .entry)) t u)) (d + 1) (entry (now (dist .entry))) (entry (now (dist .exit))) ⌝ }
+    ensures { λ _. ⌜ Marked (λ t. some 129 (λ u. s below u and entry (now (dist .entry)) u is d and joined 128 (now (m .entry)) (now (part .entry)) t u))
+        (d + 1) (entry (now (dist .entry))) (entry (now (dist .exit))) ⌝ }
 {
     let mut u: usize = 1;
     while u <= 128 {

@@ -3,7 +3,6 @@ use mathlib.Core.Logic.{inr, ⊎-elim}
 use Prim.Native.Nat.{_≤_, _-_}
 use native.Mathlib.Omega.{arith}
 use lib.ListN.{length, length-set}
-use borrow.Author.Needs.{needs}
 use Rattle.graph.specs.Tests.{_below_, _and_}
 use Rattle.graph.specs.Matrix.{joined}
 use Rattle.graph.specs.Steps.{entry, Marked}
