@@ -2,7 +2,7 @@
 use mathlib.Core.Path.{_≡_, refl, sym, ap, subst, _∙_}
 use Prim.Native.Nat.{ℕ, _/_, _%_, _<_}
 use native.Mathlib.Omega.{arith}
-use Rattle.graph.specs.Tests.{_is_, if_then_else_}
+use Rattle.words.specs.Tests.{_is_, if_then_else_}
 use Rattle.verdict.specs.declared.Fault.{Fault}
 use Rattle.verdict.specs.declared.Fault.the-variants.{Aborted, Unfinal}
 use Rattle.verdict.specs.declared.CleanAnswer.{CleanAnswer}

@@ -4,7 +4,7 @@ use mathlib.Core.List.{List}
 use Prim.Native.Nat.{ℕ, suc, _<_}
 use native.Mathlib.Omega.{arith}
 use lib.ListN.{length}
-use Rattle.graph.specs.Tests.{_is_, if_then_else_}
+use Rattle.words.specs.Tests.{_is_, if_then_else_}
 use Rattle.graph.specs.Shows.{order, cycle}
 use Rattle.verdict.specs.Limits.{transactions, most-steps}
 use Rattle.verdict.specs.Log.{steps}

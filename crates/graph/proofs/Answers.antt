@@ -6,15 +6,15 @@ use mathlib.Core.Option.{none, some as just}
 use Prim.Native.Nat.{ℕ, _≤_, _<_}
 use native.Mathlib.Omega.{arith}
 use lib.ListN.{length}
-use Rattle.graph.specs.Tests.{some}
-use Rattle.graph.specs.Lists.{zeros, entries}
-use Rattle.graph.specs.First.{dictionary, First, earliest, not-any, later}
+use Rattle.words.specs.Tests.{some}
+use Rattle.words.specs.Lists.{zeros, entries}
+use Rattle.words.specs.First.{dictionary, First, earliest, not-any, later}
 use Rattle.graph.specs.Shows.{order, cycle, members, shows-order, shows-cycle}
 use Rattle.graph.specs.Matrix.{takes-part, matrix-order, told, told-later, later-members, Sorts, Follows}
 use Rattle.graph.specs.Steps.{laid, Places, Followed, Cycled}
 use Rattle.graph.specs.declared.Answer.the-variants.{Order, Cycle}
 use Rattle.graph.specs.declared.Later.the-variants.{Found, Nothing}
-use Rattle.graph.proofs.Truth.{and→}
+use Rattle.words.proofs.Truth.{and→}
 use Rattle.graph.proofs.Sized.{order-size, order-acyclic, most}
 use Rattle.graph.proofs.Laid.{laid-none, laid-entries}
 use Rattle.graph.proofs.Turn.{found-none, found-some}

@@ -5,10 +5,10 @@ use mathlib.Core.List.{List}
 use Prim.Native.Nat.{ℕ, suc, _≤_, _<_}
 use lib.ListN.{length}
 use native.Mathlib.Omega.{arith}
-use Rattle.graph.specs.Tests.{_upto_, _and_, count, lowest}
+use Rattle.words.specs.Tests.{_upto_, _and_, count, lowest}
 use Rattle.graph.specs.Matrix.{takes-part}
 use Rattle.graph.specs.Steps.{may-begin, unmarked}
-use Rattle.graph.proofs.Truth.{to-false, and→, →and, upto→, →upto, lowest-is, lowest-le, lowest-passes}
+use Rattle.words.proofs.Truth.{to-false, and→, →and, upto→, →upto, lowest-is, lowest-le, lowest-passes}
 use Rattle.graph.proofs.Peel.{free→}
 use Rattle.graph.proofs.Marks.{Part, part→}
 use Rattle.graph.proofs.Sized.{part-less}

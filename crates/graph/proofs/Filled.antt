@@ -5,11 +5,11 @@ use mathlib.Core.List.{List, [], _∷_, _++_, append-nil, append-assoc}
 use Prim.Native.Nat.{ℕ, _+_, _≤_, _<_}
 use native.Mathlib.Omega.{arith}
 use lib.ListN.{length, set, length-set, length-append}
-use Rattle.graph.specs.Tests.{_upto_, _and_, count, lowest}
-use Rattle.graph.specs.First.{dictionary, First}
+use Rattle.words.specs.Tests.{_upto_, _and_, count, lowest}
+use Rattle.words.specs.First.{dictionary, First}
 use Rattle.graph.specs.Matrix.{takes-part, joined, matrix-order}
 use Rattle.graph.specs.Steps.{may-begin, apart, unmarked, laid, Places}
-use Rattle.graph.proofs.Truth.{not-both, to-false, →none}
+use Rattle.words.proofs.Truth.{not-both, to-false, →none}
 use Rattle.graph.proofs.Peel.{free→, apart→}
 use Rattle.graph.proofs.Marks.{part→, ends, no-loop, joined-apart, order-without}
 use Rattle.graph.proofs.Greedy.{cycle-more, first-none, first-next, stuck}

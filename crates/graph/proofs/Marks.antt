@@ -8,11 +8,11 @@ use native.Mathlib.Omega.{arith}
 use native.Mathlib.Numerals.{add-one}
 use lib.ListN.{length, getD, drop, set, drop-of-length-le}
 use lib.Seq.{drop-cons, getD-set-same, getD-set-other}
-use Rattle.graph.specs.Tests.{_and_, fails, some}
+use Rattle.words.specs.Tests.{_and_, fails, some}
 use Rattle.graph.specs.Matrix.{takes-part, joined, matrix-order}
 use Rattle.graph.specs.Order.{is-order}
 use Rattle.graph.specs.Steps.{free, without, apart, unmarked}
-use Rattle.graph.proofs.Truth.{decide, to-false, same-test, and→, →and, and-no-left, →fails, fails→, isnt→, →isnt, upto→, →upto}
+use Rattle.words.proofs.Truth.{decide, to-false, same-test, and→, →and, and-no-left, →fails, fails→, isnt→, →isnt, upto→, →upto}
 use Rattle.graph.proofs.Peel.{without→, →without, apart→, →apart, peel, peel-none, free→}
 
 pub record Part (n : ℕ) (part : List ℕ) (v : ℕ) : Type 0 where

@@ -5,13 +5,13 @@ use mathlib.Core.List.{List, [], _∷_}
 use Prim.Native.Nat.{ℕ, suc, _≤_}
 use native.Mathlib.Omega.{arith}
 use lib.ListN.{length, length-set}
-use Rattle.graph.specs.Tests.{count}
-use Rattle.graph.specs.First.{Never}
+use Rattle.words.specs.Tests.{count}
+use Rattle.words.specs.First.{Never}
 use Rattle.graph.specs.Order.{is-order}
 use Rattle.graph.specs.Cycle.{is-cycle}
 use Rattle.graph.specs.Matrix.{takes-part, joined, matrix-order}
 use Rattle.graph.specs.Steps.{unmarked}
-use Rattle.graph.proofs.Truth.{and→, fails→, count-none, count-above}
+use Rattle.words.proofs.Truth.{and→, fails→, count-none, count-above}
 use Rattle.graph.proofs.Peel.{free→, order→, count-without}
 use Rattle.graph.proofs.Marks.{zero-out, part→, ends, parts-without, matrix-peel, matrix-none}
 use Rattle.graph.proofs.Exclude.{no-cycle}

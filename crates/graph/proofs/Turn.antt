@@ -8,12 +8,12 @@ use native.Mathlib.Omega.{arith}
 use native.Mathlib.Numerals.{add-one}
 use lib.ListN.{length, getD, drop, set, length-drop, drop-of-length-le}
 use lib.Seq.{drop-cons}
-use Rattle.graph.specs.Tests.{_upto_, _and_, some, count, lowest}
-use Rattle.graph.specs.First.{dictionary, First, Never, Earliest, earliest, not-any, later}
+use Rattle.words.specs.Tests.{_upto_, _and_, some, count, lowest}
+use Rattle.words.specs.First.{dictionary, First, Never, Earliest, earliest, not-any, later}
 use Rattle.graph.specs.Cycle.{is-cycle}
 use Rattle.graph.specs.Matrix.{takes-part, joined, matrix-order, later-members}
 use Rattle.graph.specs.Steps.{may-begin, unmarked, laid, until, Places, Followed}
-use Rattle.graph.proofs.Truth.{not-both, to-false, and→, fails→, none→}
+use Rattle.words.proofs.Truth.{not-both, to-false, and→, fails→, none→}
 use Rattle.graph.proofs.Peel.{free→, apart→}
 use Rattle.graph.proofs.Marks.{Part, part→, joined-apart, matrix-peel, matrix-none}
 use Rattle.graph.proofs.Follow.{later-same, later-other, later-none, later-end}

@@ -5,9 +5,9 @@ use mathlib.Core.List.{List, []}
 use mathlib.Core.Option.{Option, none, some as just}
 use Prim.Native.Nat.{ℕ, suc, _+_, _-_, _*_}
 use lib.ListN.{length, getD}
-use Rattle.graph.specs.Tests.{_is_, _upto_, _and_, fails}
-use Rattle.graph.specs.Lists.{entries}
-use Rattle.graph.specs.First.{Earliest, later}
+use Rattle.words.specs.Tests.{_is_, _upto_, _and_, fails}
+use Rattle.words.specs.Lists.{entries}
+use Rattle.words.specs.First.{Earliest, later}
 use Rattle.graph.specs.Order.{is-order}
 use Rattle.graph.specs.Shows.{Shown, order, cycle, members, Shows}
 use Rattle.graph.specs.declared.Answer.{Answer}

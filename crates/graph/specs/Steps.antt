@@ -7,8 +7,8 @@ use mathlib.Core.Option.{Option, none, some as just}
 use Prim.Native.Nat.{ℕ, zero, suc, _+_, _-_, _≤_, _<_}
 use lib.ListN.{length, getD, set}
 use lib.Seq.{sets}
-use Rattle.graph.specs.Tests.{_is_, _below_, _and_, fails, some, lowest}
-use Rattle.graph.specs.First.{dictionary, shorter, First, Earliest, later}
+use Rattle.words.specs.Tests.{_is_, _below_, _and_, fails, some, lowest}
+use Rattle.words.specs.First.{dictionary, shorter, First, Earliest, later}
 use Rattle.graph.specs.Cycle.{is-cycle}
 use Rattle.graph.specs.Matrix.{vertices, takes-part, joined, matrix-order, later-members}
 

@@ -5,7 +5,7 @@ ghost use mathlib.Core.Bool.{true};
 ghost use mathlib.Core.List.{List};
 ghost use Prim.Native.Nat.{ℕ, _+_, _≤_, _<_};
 ghost use lib.ListN.{length};
-ghost use Rattle.graph.specs.Tests.{_is_, _below_, _and_, some, lowest};
+ghost use Rattle.words.specs.Tests.{_is_, _below_, _and_, some, lowest};
 ghost use Rattle.graph.specs.Cycle.{is-cycle};
 ghost use Rattle.graph.specs.Matrix.{joined};
 ghost use Rattle.graph.specs.Steps.{pick, far, laid, entry, Marked, Near, Least, Cycled};

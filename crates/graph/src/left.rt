@@ -2,7 +2,7 @@
 ghost use mathlib.Core.Path.{_≡_};
 ghost use Prim.Native.Nat.{_≤_};
 ghost use lib.ListN.{length};
-ghost use Rattle.graph.specs.Tests.{_upto_, _and_, some, lowest};
+ghost use Rattle.words.specs.Tests.{_upto_, _and_, some, lowest};
 ghost use Rattle.graph.specs.Matrix.{takes-part, joined};
 ghost use Rattle.graph.specs.Steps.{may-begin};
 

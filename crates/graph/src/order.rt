@@ -2,8 +2,8 @@
 ghost use mathlib.Core.Path.{_≡_};
 ghost use Prim.Native.Nat.{_+_, _≤_};
 ghost use lib.ListN.{length};
-ghost use Rattle.graph.specs.Tests.{count};
-ghost use Rattle.graph.specs.Lists.{zeros};
+ghost use Rattle.words.specs.Tests.{count};
+ghost use Rattle.words.specs.Lists.{zeros};
 ghost use Rattle.graph.specs.Matrix.{vertices, takes-part, matrix-order};
 ghost use Rattle.graph.specs.Steps.{Places};
 use super::left::begins;

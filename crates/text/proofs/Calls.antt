@@ -7,7 +7,7 @@ use native.Mathlib.Omega.{arith}
 use native.Mathlib.Numerals.{add-one}
 use lib.ListN.{length, getD, take, drop, drop-of-length-le}
 use lib.Seq.{take-at}
-use Rattle.graph.specs.Lists.{zeros, entries}
+use Rattle.words.specs.Lists.{zeros, entries}
 use Rattle.verdict.specs.Limits.{most-steps}
 use Rattle.verdict.specs.Refusal.{Refusal, refused}
 use Rattle.verdict.specs.Call.{turned-away, answered}

@@ -6,7 +6,7 @@ use mathlib.Core.List.{List, [], _∷_, _++_, append-nil, append-assoc}
 use Prim.Native.Nat.{ℕ, suc, _+_, _-_, _≤_, _<_}
 use lib.ListN.{length, take, set, replicate, replicate-append-replicate}
 use lib.Seq.{take-suc-set, take-all}
-use Rattle.graph.specs.Lists.{zeros}
+use Rattle.words.specs.Lists.{zeros}
 
 -- the entries before `from` are as they were, and those from there to i are 0
 abbrev pub Cleared : (run₀ : List ℕ) (from : ℕ) (run : List ℕ) (i : ℕ) → Type 0

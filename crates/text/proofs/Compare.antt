@@ -4,7 +4,7 @@ use mathlib.Core.Bool.{true}
 use mathlib.Core.List.{List, [], _∷_, _++_, append-assoc}
 use Prim.Native.Nat.{ℕ, suc, _+_, _<_}
 use native.Mathlib.Omega.{arith}
-use Rattle.graph.proofs.Truth.{and→}
+use Rattle.words.proofs.Truth.{and→}
 use Rattle.text.specs.Bytes.{bytes, line-end}
 use Rattle.text.specs.Line.{header, line, sayable, has-word, sayable-step}
 use Rattle.text.specs.Text.{lines, Steps, no-step, a-step}

@@ -3,8 +3,8 @@ use mathlib.Core.Path.{_≡_, refl, sym, ap, subst, _∙_}
 use mathlib.Core.Bool.{Bool, true, false}
 use mathlib.Core.List.{List, [], _∷_, _++_, append-assoc}
 use Prim.Native.Nat.{ℕ, _+_}
-use Rattle.graph.specs.Tests.{_upto_, _and_}
-use Rattle.graph.proofs.Truth.{not-both, and→, →and}
+use Rattle.words.specs.Tests.{_upto_, _and_}
+use Rattle.words.proofs.Truth.{not-both, and→, →and}
 use Rattle.text.specs.Bytes.{bytes, blank, line-end}
 use Rattle.text.specs.Decimal.{decimal}
 use Rattle.text.specs.Line.{item, op, line, sayable, has-word, sayable-step}

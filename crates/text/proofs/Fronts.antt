@@ -7,8 +7,8 @@ use native.Mathlib.Omega.{arith}
 use native.Mathlib.Numerals.{add-one}
 use lib.ListN.{length, getD, drop, drop-of-length-le}
 use lib.Seq.{drop-cons}
-use Rattle.graph.specs.Tests.{_is_, _and_}
-use Rattle.graph.proofs.Truth.{not-both, and→, →and, →is, is→, →isnt, and-no-left, upto→, →upto}
+use Rattle.words.specs.Tests.{_is_, _and_}
+use Rattle.words.proofs.Truth.{not-both, and→, →and, →is, is→, →isnt, and-no-left, upto→, →upto}
 use Rattle.text.specs.Decimal.{digit, decimal}
 use Rattle.text.specs.Line.{sayable, largest}
 use Rattle.text.specs.Finds.{starts, is-digit}

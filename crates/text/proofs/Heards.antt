@@ -7,7 +7,7 @@ use Prim.Native.Nat.{ℕ, _+_, _-_, _≤_}
 use native.Mathlib.Omega.{arith}
 use lib.ListN.{length, take, length-append}
 use lib.Seq.{take-at}
-use Rattle.graph.specs.Lists.{zeros, entries}
+use Rattle.words.specs.Lists.{zeros, entries}
 use Rattle.graph.specs.Shows.{order, cycle}
 use Rattle.verdict.specs.Limits.{transactions, work-bytes, witness-entries}
 use Rattle.verdict.specs.Refusal.{Refusal, taken, refused, _at_when_, _else-try_, log-refusal, search-refusal, work-refusal, witness-refusal}

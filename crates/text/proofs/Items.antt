@@ -6,7 +6,7 @@ use Prim.Native.Nat.{ℕ, _+_, _-_, _≤_}
 use native.Mathlib.Omega.{arith}
 use lib.ListN.{length, drop, length-append, length-drop}
 use lib.Seq.{drop-drop}
-use Rattle.graph.proofs.Truth.{not-both}
+use Rattle.words.proofs.Truth.{not-both}
 use Rattle.text.specs.Line.{item}
 use Rattle.text.specs.Finds.{starts, Finds}
 use Rattle.text.specs.declared.number.Number.{Number}

@@ -6,8 +6,8 @@ use Prim.Native.Nat.{ℕ, _+_, _-_, _≤_}
 use native.Mathlib.Omega.{arith}
 use lib.ListN.{length, take, drop}
 use lib.Seq.{take-at}
-use Rattle.graph.specs.Lists.{zeros, entries}
-use Rattle.graph.proofs.Truth.{and→, is→, →fails, →not-fails}
+use Rattle.words.specs.Lists.{zeros, entries}
+use Rattle.words.proofs.Truth.{and→, is→, →fails, →not-fails}
 use Rattle.verdict.specs.Limits.{witness-entries, work-bytes}
 use Rattle.verdict.specs.Call.{turned-away, answered}
 use Rattle.verdict.proofs.Refused.{when-yes, when-no}

@@ -7,11 +7,11 @@ use mathlib.Core.Option.{Option, none, some as just}
 use Prim.Native.Nat.{ℕ, suc, _+_, _*_, _/_, _≤_, _<_}
 use native.Mathlib.Omega.{arith}
 use lib.ListN.{length, length-append}
-use Rattle.graph.specs.Tests.{_below_}
-use Rattle.graph.specs.Lists.{member}
+use Rattle.words.specs.Tests.{_below_}
+use Rattle.words.specs.Lists.{member}
 use Rattle.graph.specs.Shows.{order, cycle}
-use Rattle.graph.proofs.Truth.{decide, below→, not-below→}
-use Rattle.graph.proofs.Places.{member-head, member-tail}
+use Rattle.words.proofs.Truth.{decide, below→, not-below→}
+use Rattle.words.proofs.Places.{member-head, member-tail}
 use Rattle.verdict.specs.Limits.{transactions, most-steps}
 use Rattle.verdict.specs.Log.{steps, committed-count}
 use Rattle.verdict.specs.Refusal.{taken, refused, log-refusal}

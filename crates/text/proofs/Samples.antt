@@ -5,13 +5,13 @@ use mathlib.Core.Option.{some as just}
 use Prim.Native.Nat.{ℕ, _≤_}
 use native.Mathlib.Omega.{arith}
 use lib.ListN.{length}
-use Rattle.graph.specs.Tests.{_is_, _below_, _upto_, _and_, _or_, _implies_, fails, if_then_else_, some, every, count, lowest, highest}
-use Rattle.graph.specs.Lists.{member, all, distinct, before}
-use Rattle.graph.specs.First.{dictionary, shorter, later}
+use Rattle.words.specs.Tests.{_is_, _below_, _upto_, _and_, _or_, _implies_, fails, if_then_else_, some, every, count, lowest, highest}
+use Rattle.words.specs.Lists.{member, all, distinct, before}
+use Rattle.words.specs.First.{dictionary, shorter, later}
 use Rattle.graph.specs.Order.{once-each, keeps, is-order}
 use Rattle.graph.specs.Cycle.{leads, is-cycle}
 use Rattle.graph.specs.Shows.{cycle}
-use Rattle.graph.proofs.Search.{ascending, put-before, each-before, tuples, short-tuples, sift}
+use Rattle.words.proofs.Search.{ascending, put-before, each-before, tuples, short-tuples, sift}
 use Rattle.graph.proofs.Judge.{shown-by, nodes, judge-graph}
 use Rattle.verdict.specs.Log.{steps, kind, tx, obj, src, begins, reads, writes, commits, aborts, committed, aborted, writer, write-one-object, begin-step, commit-step, commits-writer, committed-count}
 use Rattle.verdict.specs.Refusal.{taken, _at_when_, _else-try_, tried, object-allowed, source-allowed, begun, ended, wrote, range-refusal, life-refusal, source-refusal, step-refusal, open-refusal, log-refusal, search-refusal}

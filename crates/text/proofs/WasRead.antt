@@ -5,7 +5,7 @@ use Prim.Native.Nat.{ℕ, _-_, _*_, _≤_}
 use native.Mathlib.Omega.{arith}
 use lib.ListN.{length, take}
 use lib.Seq.{take-at}
-use Rattle.graph.specs.Lists.{zeros, entries}
+use Rattle.words.specs.Lists.{zeros, entries}
 use Rattle.verdict.specs.Limits.{most-steps}
 use Rattle.verdict.specs.Log.{steps}
 use Rattle.verdict.specs.Refusal.{taken, refused}

@@ -7,8 +7,8 @@ use Prim.Native.Nat.{ℕ, _+_, _-_, _≤_}
 use Prim.Native.Char.{code}
 use native.Mathlib.Omega.{arith}
 use lib.ListN.{length, getD, drop}
-use Rattle.graph.specs.Tests.{_is_, _upto_, _and_, if_then_else_}
-use Rattle.graph.proofs.Truth.{decide, not-both, and→, upto→, is→, isnt→}
+use Rattle.words.specs.Tests.{_is_, _upto_, _and_, if_then_else_}
+use Rattle.words.proofs.Truth.{decide, not-both, and→, upto→, is→, isnt→}
 use Rattle.text.specs.Bytes.{bytes}
 use Rattle.text.specs.Line.{word, item, op, has-word}
 use Rattle.text.specs.Finds.{starts, Finds}

@@ -2,7 +2,7 @@
 use mathlib.Core.List.{List, [], _∷_, _++_}
 use Prim.Native.Nat.{ℕ, zero, suc, _+_, _/_, _%_}
 use Prim.Native.Char.{code}
-use Rattle.graph.specs.Tests.{_below_, if_then_else_}
+use Rattle.words.specs.Tests.{_below_, if_then_else_}
 
 -- the byte of the digit d, which is 0..9
 unfoldable pub digit : ℕ → ℕ

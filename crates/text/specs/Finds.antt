@@ -5,7 +5,7 @@ use mathlib.Core.List.{List, [], _∷_, _++_}
 use Prim.Native.Nat.{ℕ, _≤_, _<_}
 use Prim.Native.Char.{code}
 use lib.ListN.{length, drop}
-use Rattle.graph.specs.Tests.{_is_, _upto_, _and_}
+use Rattle.words.specs.Tests.{_is_, _upto_, _and_}
 use Rattle.text.specs.Line.{line, sayable-step}
 use Rattle.text.specs.Text.{lines, Steps}
 use Rattle.text.specs.Reading.{NoLine}

@@ -2,7 +2,7 @@
 use mathlib.Core.Bool.{Bool}
 use mathlib.Core.List.{List, [], _∷_, _++_}
 use Prim.Native.Nat.{ℕ}
-use Rattle.graph.specs.Tests.{_is_, _upto_, _and_, if_then_else_}
+use Rattle.words.specs.Tests.{_is_, _upto_, _and_, if_then_else_}
 use Rattle.text.specs.Bytes.{bytes, blank, line-end}
 use Rattle.text.specs.Decimal.{decimal}
 

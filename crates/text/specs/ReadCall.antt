@@ -3,7 +3,7 @@ use mathlib.Core.Path.{_≡_}
 use mathlib.Core.List.{List, [], _∷_}
 use Prim.Native.Nat.{ℕ, _*_, _≤_, _<_}
 use lib.ListN.{length}
-use Rattle.graph.specs.Lists.{entries}
+use Rattle.words.specs.Lists.{entries}
 use Rattle.verdict.specs.Limits.{most-steps}
 use Rattle.verdict.specs.Log.{steps}
 use Rattle.verdict.specs.Refusal.{Refusal, refused}

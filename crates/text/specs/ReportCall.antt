@@ -4,8 +4,8 @@ use mathlib.Core.Bool.{Bool}
 use mathlib.Core.List.{List, [], _∷_}
 use Prim.Native.Nat.{ℕ}
 use lib.ListN.{length}
-use Rattle.graph.specs.Tests.{_is_, _and_, fails}
-use Rattle.graph.specs.Lists.{zeros, entries}
+use Rattle.words.specs.Tests.{_is_, _and_, fails}
+use Rattle.words.specs.Lists.{zeros, entries}
 use Rattle.verdict.specs.Limits.{witness-entries, work-bytes}
 use Rattle.verdict.specs.Refusal.{Refusal, _at_when_}
 use Rattle.verdict.specs.Call.{Call}

@@ -3,7 +3,7 @@ ghost use mathlib.Core.Path.{_≡_};
 ghost use mathlib.Core.List.{_++_};
 ghost use Prim.Native.Nat.{_-_, _≤_};
 ghost use lib.ListN.{length, take};
-ghost use Rattle.graph.specs.Lists.{zeros};
+ghost use Rattle.words.specs.Lists.{zeros};
 
 // Sets every number from this one on to 0.
 pub(crate) fn clear_from(steps: &mut [u16], from: usize)

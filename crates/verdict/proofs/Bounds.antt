@@ -6,14 +6,14 @@ use mathlib.Core.Logic.{⊎-elim}
 use Prim.Native.Nat.{ℕ, zero, suc, _≤_, _<_}
 use native.Mathlib.Omega.{arith}
 use lib.ListN.{length}
-use Rattle.graph.specs.Tests.{if_then_else_, some, count, lowest}
-use Rattle.graph.specs.Lists.{member, all}
-use Rattle.graph.specs.First.{later}
+use Rattle.words.specs.Tests.{if_then_else_, some, count, lowest}
+use Rattle.words.specs.Lists.{member, all}
+use Rattle.words.specs.First.{later}
 use Rattle.graph.specs.Order.{once-each, is-order}
 use Rattle.graph.specs.Cycle.{is-cycle}
 use Rattle.graph.specs.Shows.{Shown, order, cycle, Shows, shows-order, shows-cycle}
-use Rattle.graph.proofs.Truth.{decide, to-false, and→, not-below→, if-true, if-false, lowest-bound, count-above}
-use Rattle.graph.proofs.Places.{all→}
+use Rattle.words.proofs.Truth.{decide, to-false, and→, not-below→, if-true, if-false, lowest-bound, count-above}
+use Rattle.words.proofs.Places.{all→}
 use Rattle.graph.proofs.Judge.{nodes, nodes-length, there-node, once-over, once-length, cycle-over, cycle-length}
 use Rattle.verdict.specs.Limits.{transactions, most-steps}
 use Rattle.verdict.specs.Log.{steps, committed, committed-count, aborted, src}

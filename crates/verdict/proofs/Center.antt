@@ -5,15 +5,15 @@ use mathlib.Core.Logic.{_⊎_, inl, inr, ⊎-elim, _↔_}
 use mathlib.Core.List.{List}
 use Prim.Native.Nat.{ℕ, zero, suc, _+_, _≤_, _<_}
 use native.Mathlib.Omega.{arith}
-use Rattle.graph.specs.Tests.{_is_, _below_, _or_}
-use Rattle.graph.specs.Lists.{member, distinct, before}
+use Rattle.words.specs.Tests.{_is_, _below_, _or_}
+use Rattle.words.specs.Lists.{member, distinct, before}
 use Rattle.graph.specs.Order.{once-each, keeps}
 use Rattle.verdict.specs.Log.{steps, kind, tx, obj, src, reads, writes, committed, writer, commit-step}
 use Rattle.verdict.specs.Clean.{judged, judged-other, final-source, faulty-read, is-clean}
 use Rattle.verdict.specs.Version.{after, next-version, writer-to-next, source-to-reader, reader-to-next, version-edge}
 use Rattle.verdict.specs.Replay.{serial, finds, reads-right, writers-in-order, explains-loosely, explains}
-use Rattle.graph.proofs.Truth.{decide, not-both, to-true, and→, →and, or→, →or-left, →or-right, fails→, →fails, implies→, →implies, is→, →is, isnt→, →isnt, below→, →below, not-below→, some→, →some, none→, every→, →every}
-use Rattle.graph.proofs.Places.{all→, →all, before-left, before-irreflexive, before-trans, before-asym, before-total}
+use Rattle.words.proofs.Truth.{decide, not-both, to-true, and→, →and, or→, →or-left, →or-right, fails→, →fails, implies→, →implies, is→, →is, isnt→, →isnt, below→, →below, not-below→, some→, →some, none→, every→, →every}
+use Rattle.words.proofs.Places.{all→, →all, before-left, before-irreflexive, before-trans, before-asym, before-total}
 use Rattle.verdict.proofs.WellFormed.{Well}
 use Rattle.verdict.proofs.Versions.{not-zero, Wrote, Following, after-zero, after-other, share, shared, committed-range, commit-injective, next→, →next}
 use Rattle.verdict.proofs.Finds.{Last, None, finds-cases}

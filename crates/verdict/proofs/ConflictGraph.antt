@@ -3,9 +3,9 @@ use mathlib.Core.Path.{_≡_, sym, _∙_}
 use mathlib.Core.Bool.{true, false}
 use mathlib.Core.List.{List}
 use Prim.Native.Nat.{ℕ, suc}
-use Rattle.graph.specs.Tests.{_is_, _or_, some}
+use Rattle.words.specs.Tests.{_is_, _or_, some}
 use Rattle.graph.specs.Matrix.{takes-part, joined}
-use Rattle.graph.proofs.Truth.{same-test, and→, →and, and-no-left, and-no-right, and-true, →or-left, →or-right, or-no, or-false, →fails, fails→, isnt→, is→, →is, →isnt, some→, →some, →none}
+use Rattle.words.proofs.Truth.{same-test, and→, →and, and-no-left, and-no-right, and-true, →or-left, →or-right, or-no, or-false, →fails, fails→, isnt→, is→, →is, →isnt, some→, →some, →none}
 use Rattle.verdict.specs.Limits.{transactions}
 use Rattle.verdict.specs.Log.{steps, kind, tx, obj, committed}
 use Rattle.verdict.specs.Answer.{shown}

@@ -6,12 +6,12 @@ use mathlib.Core.List.{List, [], _∷_}
 use Prim.Native.Nat.{ℕ, suc, _≤_}
 use native.Mathlib.Omega.{arith}
 use lib.ListN.{length}
-use Rattle.graph.specs.Tests.{_is_, count}
-use Rattle.graph.specs.Lists.{member, distinct}
-use Rattle.graph.proofs.Truth.{not-both, to-false, and→, →and, →fails}
-use Rattle.graph.proofs.Places.{member→, member-head, member-tail, distinct→}
-use Rattle.graph.proofs.Search.{ascending, rising}
-use Rattle.graph.proofs.Pigeon.{pigeon, rising-distinct, ascending-rises, ascending-has, ascending-only, ascending-length}
+use Rattle.words.specs.Tests.{_is_, count}
+use Rattle.words.specs.Lists.{member, distinct}
+use Rattle.words.proofs.Truth.{not-both, to-false, and→, →and, →fails}
+use Rattle.words.proofs.Places.{member→, member-head, member-tail, distinct→}
+use Rattle.words.proofs.Search.{ascending, rising}
+use Rattle.words.proofs.Pigeon.{pigeon, rising-distinct, ascending-rises, ascending-has, ascending-only, ascending-length}
 use Rattle.verdict.specs.Limits.{transactions}
 use Rattle.verdict.specs.Log.{steps, kind, commits, committed, commit-step, committed-count}
 use Rattle.verdict.proofs.WellFormed.{Well}

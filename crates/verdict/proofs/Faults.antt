@@ -4,8 +4,8 @@ use mathlib.Core.Bool.{Bool, true, false}
 use mathlib.Core.List.{List}
 use Prim.Native.Nat.{ℕ, _≤_, _<_}
 use native.Mathlib.Omega.{arith}
-use Rattle.graph.specs.Tests.{fails, lowest}
-use Rattle.graph.proofs.Truth.{to-true, →and, and-no-left, and-no-right, and-true, →or-left, or-false, →fails, →not-fails, →is, →isnt, if-true, if-false, lowest-none, lowest-some}
+use Rattle.words.specs.Tests.{fails, lowest}
+use Rattle.words.proofs.Truth.{to-true, →and, and-no-left, and-no-right, and-true, →or-left, or-false, →fails, →not-fails, →is, →isnt, if-true, if-false, lowest-none, lowest-some}
 use Rattle.verdict.specs.Log.{steps, obj, src, committed, aborted}
 use Rattle.verdict.specs.Said.{said-fault, said-clean}
 use Rattle.verdict.specs.declared.Fault as code

@@ -4,7 +4,7 @@ use mathlib.Core.List.{List, _++_, append-nil}
 use Prim.Native.Nat.{ℕ}
 use lib.ListN.{length, drop, replicate, length-replicate}
 use lib.Seq.{drop-length}
-use Rattle.graph.specs.Lists.{zeros}
+use Rattle.words.specs.Lists.{zeros}
 
 pub filled : (s : List ℕ) (n : ℕ) → n ≡ length s → replicate n 0 ++ drop n s ≡ zeros (length s)
 unfolding zeros

@@ -4,12 +4,12 @@ use mathlib.Core.Bool.{true, false, false≢true}
 use mathlib.Core.Logic.{_⊎_, inl, inr, ⊎-elim}
 use mathlib.Core.List.{List, [], _∷_}
 use Prim.Native.Nat.{ℕ}
-use Rattle.graph.specs.Tests.{_is_, if_then_else_}
-use Rattle.graph.specs.Lists.{member, distinct, before}
+use Rattle.words.specs.Tests.{_is_, if_then_else_}
+use Rattle.words.specs.Lists.{member, distinct, before}
 use Rattle.verdict.specs.Log.{writer}
 use Rattle.verdict.specs.Replay.{finds}
-use Rattle.graph.proofs.Truth.{decide, not-both, is→, isnt→, if-true, if-false}
-use Rattle.graph.proofs.Places.{member→, before→, before-head, before-tail, before-left, distinct→, none-before-head}
+use Rattle.words.proofs.Truth.{decide, not-both, is→, isnt→, if-true, if-false}
+use Rattle.words.proofs.Places.{member→, before→, before-head, before-tail, before-left, distinct→, none-before-head}
 
 -- what r finds of x: the last writer of x before r, or v where there is none
 pub record Last (log : List ℕ) (x r s : ℕ) (w : List ℕ) : Type 0 where

@@ -3,8 +3,8 @@ use mathlib.Core.Path.{_≡_, refl, sym, ap, _∙_}
 use mathlib.Core.List.{List, [], _∷_}
 use Prim.Native.Nat.{ℕ}
 use lib.ListN.{length}
-use Rattle.graph.specs.Lists.{zeros, entries}
-use Rattle.graph.proofs.Truth.{not-fails→, →not-fails, is→, →is}
+use Rattle.words.specs.Lists.{zeros, entries}
+use Rattle.words.proofs.Truth.{not-fails→, →not-fails, is→, →is}
 use Rattle.verdict.specs.Limits.{work-bytes, witness-entries}
 use Rattle.verdict.specs.Refusal.{Refusal, taken, refused, _else-try_, work-refusal, witness-refusal}
 use Rattle.verdict.specs.declared.Checked.{Checked}

@@ -6,12 +6,12 @@ use Prim.Native.Nat.{ℕ, zero, suc, _+_, _-_, _≤_}
 use native.Mathlib.Omega.{arith}
 use lib.ListN.{length, take, length-append, length-replicate}
 use lib.Seq.{take-at}
-use Rattle.graph.specs.Tests.{_is_}
-use Rattle.graph.specs.Lists.{member, all, zeros, entries}
+use Rattle.words.specs.Tests.{_is_}
+use Rattle.words.specs.Lists.{member, all, zeros, entries}
 use Rattle.graph.specs.Order.{once-each}
 use Rattle.graph.specs.Shows.{order, cycle}
-use Rattle.graph.proofs.Truth.{and→, →and, →is, →not-fails}
-use Rattle.graph.proofs.Places.{member-head, member-tail, all→}
+use Rattle.words.proofs.Truth.{and→, →and, →is, →not-fails}
+use Rattle.words.proofs.Places.{member-head, member-tail, all→}
 use Rattle.verdict.specs.Limits.{transactions, witness-entries}
 use Rattle.verdict.specs.Log.{committed}
 use Rattle.verdict.specs.Refusal.{Refusal, taken, log-refusal}

@@ -7,9 +7,9 @@ use mathlib.Core.Option.{Option, none, some as just}
 use Prim.Native.Nat.{ℕ, suc, _<_}
 use native.Mathlib.Omega.{arith}
 use lib.ListN.{length}
-use Rattle.graph.specs.Tests.{_is_, _and_, if_then_else_, some, lowest}
-use Rattle.graph.specs.First.{later}
-use Rattle.graph.specs.Listed.{Listed}
+use Rattle.words.specs.Tests.{_is_, _and_, if_then_else_, some, lowest}
+use Rattle.words.specs.First.{later}
+use Rattle.words.specs.Listed.{Listed}
 use Rattle.graph.specs.Shows.{Shown, order}
 use Rattle.verdict.specs.Log.{steps, tx, obj, src, committed}
 use Rattle.verdict.specs.Clean.{Fault, Cleanness, clean, unclean, judged, judged-other, final-source, faulty-read, is-clean, fault-at, cleanness}
@@ -19,8 +19,8 @@ use Rattle.verdict.specs.Version.{next-version, writer-to-next, source-t
 use Rattle.verdict.specs.Replay.{serial, explains-loosely, explains}
 use Rattle.verdict.specs.Exact.{Exact, exact, exact-none, exact-unclean}
 use Rattle.verdict.specs.Next.{Next, next, next-none}
-use Rattle.graph.proofs.Truth.{not-both, to-true, and→, →and, or→, →fails, fails→, is→, isnt→, →isnt, if-true, some→, none→}
-use Rattle.graph.proofs.Search.{tuples, sift, tuples-listed, listed-first, listed-none}
+use Rattle.words.proofs.Truth.{not-both, to-true, and→, →and, or→, →fails, fails→, is→, isnt→, →isnt, if-true, some→, none→}
+use Rattle.words.proofs.Search.{tuples, sift, tuples-listed, listed-first, listed-none}
 use Rattle.graph.proofs.Judge.{nodes, nodes-rise, judge-graph, judge-shows, once-over, once-length}
 use Rattle.verdict.proofs.WellFormed.{Well}
 use Rattle.verdict.proofs.Versions.{committed-range}

@@ -3,8 +3,8 @@ use mathlib.Core.Path.{_≡_}
 use mathlib.Core.Bool.{true, false}
 use mathlib.Core.List.{List}
 use Prim.Native.Nat.{ℕ}
-use Rattle.graph.specs.Tests.{_is_, _and_}
-use Rattle.graph.proofs.Truth.{→and, and-no-left, and-no-right, →fails, →not-fails, →is, →isnt}
+use Rattle.words.specs.Tests.{_is_, _and_}
+use Rattle.words.proofs.Truth.{→and, and-no-left, and-no-right, →fails, →not-fails, →is, →isnt}
 use Rattle.verdict.specs.Log.{kind, tx, src, reads, committed}
 use Rattle.verdict.specs.Clean.{judged, judged-other}
 

@@ -8,8 +8,8 @@ use native.Mathlib.Omega.{arith}
 use native.Mathlib.Numerals.{add-one}
 use lib.ListN.{length, getD, set, replicate, getD-replicate}
 use lib.Seq.{getD-set-same, getD-set-other}
-use Rattle.graph.specs.Tests.{_is_, _below_, _and_, some}
-use Rattle.graph.proofs.Truth.{decide, to-false, and→, →and, and-no-left, and-no-right, is→, →is, isnt→, →isnt, below→, →below, not-below→, →not-below, →some, →none, some-skip, if-true, if-false}
+use Rattle.words.specs.Tests.{_is_, _below_, _and_, some}
+use Rattle.words.proofs.Truth.{decide, to-false, and→, →and, and-no-left, and-no-right, is→, →is, isnt→, →isnt, below→, →below, not-below→, →not-below, →some, →none, some-skip, if-true, if-false}
 use Rattle.verdict.specs.Limits.{transactions, objects}
 use Rattle.verdict.specs.Log.{steps, kind, tx, obj, writes}
 use Rattle.verdict.specs.Clean.{writes-later}

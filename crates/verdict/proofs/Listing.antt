@@ -9,9 +9,9 @@ use Prim.Native.Nat.{ℕ, _-_, _<_}
 use native.Mathlib.Omega.{arith}
 use lib.ListN.{length, take, length-replicate}
 use lib.Seq.{take-at}
-use Rattle.graph.specs.Lists.{zeros, entries}
-use Rattle.graph.specs.First.{dictionary, First, Never, later}
-use Rattle.graph.specs.Listed.{here, Listed}
+use Rattle.words.specs.Lists.{zeros, entries}
+use Rattle.words.specs.First.{dictionary, First, Never, later}
+use Rattle.words.specs.Listed.{here, Listed}
 use Rattle.graph.specs.Order.{once-each, is-order}
 use Rattle.graph.specs.Cycle.{is-cycle}
 use Rattle.graph.specs.Shows.{order, cycle, shows-order, shows-cycle}
@@ -27,9 +27,9 @@ use Rattle.verdict.specs.Call.{turned-away, answered, leaves-witness, Wi
 use Rattle.verdict.specs.Listing.{Asked, ends, brings, Listing, from-first, empty-cycle, empty-unclean, Left, by-version, by-next}
 use Rattle.verdict.specs.declared.Answer.{Answer as CodeAnswer}
 use Rattle.verdict.specs.declared.Answer.the-variants.{Order, Nothing}
-use Rattle.graph.proofs.Truth.{not-both, to-false, and→, →and, implies→, every→}
-use Rattle.graph.proofs.Dictionary.{dictionary-same, dictionary-trans, first-one}
-use Rattle.graph.proofs.Search.{listed-first, listed-none, listed-later, →listed, →listed-none, listed-one}
+use Rattle.words.proofs.Truth.{not-both, to-false, and→, →and, implies→, every→}
+use Rattle.words.proofs.Dictionary.{dictionary-same, dictionary-trans, first-one}
+use Rattle.words.proofs.Search.{listed-first, listed-none, listed-later, →listed, →listed-none, listed-one}
 use Rattle.graph.proofs.Exclude.{no-cycle}
 use Rattle.verdict.proofs.WellFormed.{refused≢taken, else-try→, Well, well-formed}
 use Rattle.verdict.proofs.Frame.{work-taken, witness-taken, both-taken}

@@ -8,13 +8,13 @@ use native.Mathlib.Omega.{arith}
 use native.Mathlib.Numerals.{add-one}
 use lib.ListN.{length, getD, set, take}
 use lib.Seq.{take-suc-set}
-use Rattle.graph.specs.Tests.{_is_, _below_, _and_, _or_, _implies_, fails, if_then_else_, some, every, count}
-use Rattle.graph.specs.Lists.{member, distinct}
-use Rattle.graph.specs.First.{dictionary, First, Never}
+use Rattle.words.specs.Tests.{_is_, _below_, _and_, _or_, _implies_, fails, if_then_else_, some, every, count}
+use Rattle.words.specs.Lists.{member, distinct}
+use Rattle.words.specs.First.{dictionary, First, Never}
 use Rattle.graph.specs.Order.{once-each}
-use Rattle.graph.proofs.Truth.{decide, not-both, to-false, to-true, and→, →and, and-true, and-true-right, and-no-left, and-no-right, →or-left, →or-right, or-false, fails→, →fails, →not-fails, implies→, →implies, is→, →is, isnt→, →isnt, below→, →below, not-below→, if-true, if-false, every→, →every, some→, count-none, count-same, count-without, none-counted}
-use Rattle.graph.proofs.Places.{member→, member-head, member-tail, all→, →all, distinct→, member-left, member-right, member-either}
-use Rattle.graph.proofs.Dictionary.{dictionary-not}
+use Rattle.words.proofs.Truth.{decide, not-both, to-false, to-true, and→, →and, and-true, and-true-right, and-no-left, and-no-right, →or-left, →or-right, or-false, fails→, →fails, →not-fails, implies→, →implies, is→, →is, isnt→, →isnt, below→, →below, not-below→, if-true, if-false, every→, →every, some→, count-none, count-same, count-without, none-counted}
+use Rattle.words.proofs.Places.{member→, member-head, member-tail, all→, →all, distinct→, member-left, member-right, member-either}
+use Rattle.words.proofs.Dictionary.{dictionary-not}
 use Rattle.verdict.specs.Limits.{transactions, objects}
 use Rattle.verdict.specs.Log.{steps, kind, tx, obj, src, reads, committed, writer}
 use Rattle.verdict.specs.Clean.{judged, judged-other, is-clean}

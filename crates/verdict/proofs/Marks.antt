@@ -7,8 +7,8 @@ use Prim.Native.Nat.{ℕ, zero, suc, _+_, _≤_, _<_}
 use native.Mathlib.Omega.{arith}
 use lib.ListN.{length, getD, set, replicate, getD-replicate}
 use lib.Seq.{getD-set-same, getD-set-other}
-use Rattle.graph.specs.Tests.{_is_, _and_, fails, if_then_else_, some}
-use Rattle.graph.proofs.Truth.{decide, →fails, →not-fails, →is, →isnt, is→, isnt→, →some, some-skip, and-no-right, and-true-right, if-true, if-false}
+use Rattle.words.specs.Tests.{_is_, _and_, fails, if_then_else_, some}
+use Rattle.words.proofs.Truth.{decide, →fails, →not-fails, →is, →isnt, is→, isnt→, →some, some-skip, and-no-right, and-true-right, if-true, if-false}
 use Rattle.verdict.specs.Walk.{Marked}
 
 -- no mark, and nothing passes

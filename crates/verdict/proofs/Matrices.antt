@@ -7,14 +7,14 @@ use Prim.Native.Nat.{ℕ, suc, _+_, _-_, _≤_, _<_}
 use native.Mathlib.Omega.{arith}
 use lib.ListN.{length, getD, set, length-set, length-replicate, getD-replicate}
 use lib.Seq.{getD-set-same, getD-set-other}
-use Rattle.graph.specs.Tests.{_is_, _or_, fails, some}
-use Rattle.graph.specs.Lists.{zeros}
+use Rattle.words.specs.Tests.{_is_, _or_, fails, some}
+use Rattle.words.specs.Lists.{zeros}
 use Rattle.graph.specs.Order.{is-order}
 use Rattle.graph.specs.Matrix.{matrix-order, takes-part, joined, told, Sorts}
 use Rattle.graph.specs.Shows.{Shown, order, cycle, members}
 use Rattle.graph.specs.declared.Answer as graph
 use Rattle.graph.specs.declared.Answer.the-variants as graph-answer
-use Rattle.graph.proofs.Truth.{decide, to-false, not-both, not-fails, same-test, and→, →and, and-true, and-no-left, and-no-right, →or-right, or-no, →fails, fails→, →not-fails, is→, isnt→, →is, →isnt, →upto, if-true, if-false, some-skip, some-next}
+use Rattle.words.proofs.Truth.{decide, to-false, not-both, not-fails, same-test, and→, →and, and-true, and-no-left, and-no-right, →or-right, or-no, →fails, fails→, →not-fails, is→, isnt→, →is, →isnt, →upto, if-true, if-false, some-skip, some-next}
 use Rattle.graph.proofs.Marks.{part→, →part, joined→, →joined}
 use Rattle.verdict.specs.Limits.{transactions, work-bytes}
 use Rattle.verdict.specs.Log.{steps, kind, tx, commits, committed}

@@ -8,13 +8,13 @@ use native.Mathlib.Omega.{arith}
 use native.Mathlib.Numerals.{add-one}
 use lib.ListN.{length, getD, take, drop, drop-of-length-le}
 use lib.Seq.{drop-cons, take-suc}
-use Rattle.graph.specs.Tests.{_is_, _and_}
-use Rattle.graph.specs.Lists.{all, zeros, entries}
-use Rattle.graph.specs.First.{Earliest, earliest, not-any, later}
+use Rattle.words.specs.Tests.{_is_, _and_}
+use Rattle.words.specs.Lists.{all, zeros, entries}
+use Rattle.words.specs.First.{Earliest, earliest, not-any, later}
 use Rattle.graph.specs.Order.{is-order}
 use Rattle.graph.specs.Shows.{order}
 use Rattle.graph.specs.Matrix.{matrix-order, told-later, later-members, Follows}
-use Rattle.graph.proofs.Truth.{same-test, and→, →and, and-true, and-no-left, and-no-right, →fails, →not-fails, →is, →isnt, if-true, if-false}
+use Rattle.words.proofs.Truth.{same-test, and→, →and, and-true, and-no-left, and-no-right, →fails, →not-fails, →is, →isnt, if-true, if-false}
 use Rattle.verdict.specs.Limits.{transactions, work-bytes}
 use Rattle.verdict.specs.Log.{committed}
 use Rattle.verdict.specs.Refusal.{taken, refused, _at_when_, log-refusal}

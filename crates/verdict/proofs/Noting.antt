@@ -6,8 +6,8 @@ use mathlib.Core.List.{List}
 use Prim.Native.Nat.{ℕ, suc, _+_, _*_, _/_, _%_, _≤_, _<_}
 use native.Mathlib.Omega.{arith}
 use lib.ListN.{getD, set, replicate, length-set, length-replicate}
-use Rattle.graph.specs.Tests.{_is_, _and_, _or_, fails, some}
-use Rattle.graph.proofs.Truth.{to-false, and→, →and, and-no-left, and-no-right, →or-left, →or-right, or-no, is→, →is, →isnt}
+use Rattle.words.specs.Tests.{_is_, _and_, _or_, fails, some}
+use Rattle.words.proofs.Truth.{to-false, and→, →and, and-no-left, and-no-right, →or-left, →or-right, or-no, is→, →is, →isnt}
 use Rattle.verdict.specs.Limits.{transactions, objects}
 use Rattle.verdict.specs.Log.{steps, kind, tx, obj, begins, writes, commits, aborts}
 use Rattle.verdict.specs.Refusal.{tried, begun, ended, wrote, open-refusal}

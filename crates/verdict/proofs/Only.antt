@@ -4,7 +4,7 @@ use mathlib.Core.Bool.{Bool}
 use mathlib.Core.List.{List, [], _∷_}
 use Prim.Native.Nat.{ℕ}
 use native.Mathlib.Omega.{arith}
-use Rattle.graph.specs.First.{dictionary, First}
+use Rattle.words.specs.First.{dictionary, First}
 use Rattle.graph.specs.Shows.{order}
 use Rattle.verdict.specs.Refusal.{Refusal, taken, refused}
 use Rattle.verdict.specs.Clean.{Fault, Cleanness, clean, unclean, cleanness}
@@ -18,8 +18,8 @@ use Rattle.verdict.specs.Call.{Call, turned-away, answered, CleanCall, S
 use Rattle.verdict.specs.declared.CleanAnswer.{CleanAnswer}
 use Rattle.verdict.specs.declared.SnapshotAnswer.{SnapshotAnswer}
 use Rattle.verdict.specs.declared.Answer.{Answer as CodeAnswer}
-use Rattle.graph.proofs.Truth.{and→}
-use Rattle.graph.proofs.Dictionary.{dictionary-same, first-one}
+use Rattle.words.proofs.Truth.{and→}
+use Rattle.words.proofs.Dictionary.{dictionary-same, first-one}
 use Rattle.graph.proofs.Only.{never-first, shows-one}
 use Rattle.verdict.proofs.Judge.{clean-cleanness}
 

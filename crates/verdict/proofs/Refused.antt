@@ -6,8 +6,8 @@ use Prim.Native.Nat.{ℕ, zero, suc, _+_, _<_}
 use native.Mathlib.Omega.{arith}
 use native.Mathlib.Nat.{not-suc-le-zero}
 use native.Mathlib.Numerals.{add-one}
-use Rattle.graph.specs.Tests.{_is_, _below_, fails, if_then_else_}
-use Rattle.graph.proofs.Truth.{decide, →isnt, below→, not-below→}
+use Rattle.words.specs.Tests.{_is_, _below_, fails, if_then_else_}
+use Rattle.words.proofs.Truth.{decide, →isnt, below→, not-below→}
 use Rattle.verdict.specs.Refusal.{Refusal, taken, refused, _at_when_, _else-try_, tried}
 use Rattle.verdict.specs.Walk.{numbered}
 

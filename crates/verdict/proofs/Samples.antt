@@ -5,10 +5,10 @@ use mathlib.Core.Option.{Option, none, some as just}
 use Prim.Native.Nat.{ℕ}
 use lib.ListN.{getD, List·getD-map}
 use native.Mathlib.Omega.{arith}
-use Rattle.graph.specs.Tests.{_is_, _below_, _upto_, _and_, _or_, _implies_, fails, if_then_else_, some, every, count, lowest, highest}
-use Rattle.graph.specs.Lists.{member, all, distinct, before, zeros, entries}
-use Rattle.graph.specs.First.{dictionary, shorter, later}
-use Rattle.graph.specs.Listed.{Listed}
+use Rattle.words.specs.Tests.{_is_, _below_, _upto_, _and_, _or_, _implies_, fails, if_then_else_, some, every, count, lowest, highest}
+use Rattle.words.specs.Lists.{member, all, distinct, before, zeros, entries}
+use Rattle.words.specs.First.{dictionary, shorter, later}
+use Rattle.words.specs.Listed.{Listed}
 use Rattle.graph.specs.Order.{once-each, keeps, is-order}
 use Rattle.graph.specs.Cycle.{leads, is-cycle}
 use Rattle.graph.specs.Shows.{order, cycle}
@@ -23,7 +23,7 @@ use Rattle.verdict.specs.Version.{after, next-commit, next-version, writ
 use Rattle.verdict.specs.Replay.{finds, reads-right, writers-in-order, serial, explains-loosely, explains}
 use Rattle.verdict.specs.Exact.{Exact}
 use Rattle.verdict.specs.Next.{up-to-zero, from-zero, list-refusal, Next}
-use Rattle.graph.proofs.Search.{ascending, put-before, each-before, tuples, short-tuples, sift}
+use Rattle.words.proofs.Search.{ascending, put-before, each-before, tuples, short-tuples, sift}
 use Rattle.graph.proofs.Judge.{shown-by, nodes, judge-graph}
 use Rattle.verdict.proofs.WellFormed.{well-formed}
 use Rattle.verdict.proofs.Judge.{first-or-none, as-shown, if-clean, orders, judge-conflict, judge-version, judge-exact, judge-next, conflict-right, version-right, exact-right, next-right, orders-listed, loosely-serial, explains-serial}

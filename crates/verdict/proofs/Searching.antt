@@ -7,11 +7,11 @@ use native.Mathlib.Omega.{arith}
 use lib.ListN.{length, getD, set, take, replicate, getD-replicate}
 use lib.Seq.{length-take-le, take-suc}
 use native.Mathlib.Numerals.{add-one}
-use Rattle.graph.specs.Tests.{_is_, _and_, fails, count}
-use Rattle.graph.specs.Lists.{member, all, distinct, zeros, entries}
-use Rattle.graph.specs.First.{dictionary, First}
+use Rattle.words.specs.Tests.{_is_, _and_, fails, count}
+use Rattle.words.specs.Lists.{member, all, distinct, zeros, entries}
+use Rattle.words.specs.First.{dictionary, First}
 use Rattle.graph.specs.Shows.{order}
-use Rattle.graph.proofs.Truth.{and-true-right, →fails, count-same}
+use Rattle.words.proofs.Truth.{and-true-right, →fails, count-same}
 use Rattle.verdict.specs.Limits.{transactions, most-searched, witness-entries}
 use Rattle.verdict.specs.Log.{committed, committed-count}
 use Rattle.verdict.specs.Refusal.{taken, log-refusal}

@@ -7,8 +7,8 @@ use Prim.Native.Nat.{ℕ, suc, _-_, _≤_, _<_}
 use native.Mathlib.Omega.{arith}
 use native.Mathlib.Numerals.{add-one}
 use lib.ListN.{getD, replicate}
-use Rattle.graph.specs.Tests.{_is_, _below_, _and_, _or_, fails, some, lowest}
-use Rattle.graph.proofs.Truth.{decide, not-both, to-false, and→, →and, and-true, and-no-left, and-no-right, or→, →or-left, →or-right, →is, is→, →isnt, →below, →not-below, if-true, if-false, some→, →some, none→, some-skip, lowest-is, lowest-none, lowest-at, lowest-passes, lowest-bound, lowest-left, lowest-right, below-lowest, highest-yes, highest-no}
+use Rattle.words.specs.Tests.{_is_, _below_, _and_, _or_, fails, some, lowest}
+use Rattle.words.proofs.Truth.{decide, not-both, to-false, and→, →and, and-true, and-no-left, and-no-right, or→, →or-left, →or-right, →is, is→, →isnt, →below, →not-below, if-true, if-false, some→, →some, none→, some-skip, lowest-is, lowest-none, lowest-at, lowest-passes, lowest-bound, lowest-left, lowest-right, below-lowest, highest-yes, highest-no}
 use Rattle.verdict.specs.Limits.{transactions, objects}
 use Rattle.verdict.specs.Log.{steps, kind, tx, obj, src, begins, writes, committed, commits, writer, write-one-object, begin-step, commit-step, commits-writer}
 use Rattle.verdict.specs.Clean.{judged-other}

@@ -9,7 +9,7 @@ use Rattle.verdict.specs.Conflict.{conflict-edge, Conflict, conflict}
 use Rattle.verdict.specs.Version.{version-edge, Version, version, version-unclean}
 use Rattle.verdict.specs.Exact.{Exact}
 use Rattle.verdict.specs.Next.{Next}
-use Rattle.graph.proofs.Truth.{and→, fails→, isnt→}
+use Rattle.words.proofs.Truth.{and→, fails→, isnt→}
 use Rattle.graph.proofs.Greedy.{shows-some}
 use Rattle.verdict.proofs.WellFormed.{Well}
 use Rattle.verdict.proofs.Judge.{cleanness-clean, conflict-ends, version-ends, judge-exact, exact-right, judge-next, next-right}

@@ -6,8 +6,8 @@ use mathlib.Core.List.{List}
 use Prim.Native.Nat.{ℕ, suc, _%_}
 use native.Mathlib.Omega.{arith}
 use lib.ListN.{length, getD}
-use Rattle.graph.specs.Tests.{_is_, _upto_, _and_, fails}
-use Rattle.graph.proofs.Truth.{→and, and-no-left, and-no-right, →or-left, →or-right, or-no, fails→, →fails, not-fails→, →not-fails, →is, →isnt, →below, →not-below, upto→, not-upto→}
+use Rattle.words.specs.Tests.{_is_, _upto_, _and_, fails}
+use Rattle.words.proofs.Truth.{→and, and-no-left, and-no-right, →or-left, →or-right, or-no, fails→, →fails, not-fails→, →not-fails, →is, →isnt, →below, →not-below, upto→, not-upto→}
 use Rattle.verdict.specs.Limits.{transactions, most-steps}
 use Rattle.verdict.specs.Log.{steps, kind, tx, obj, src}
 use Rattle.verdict.specs.Refusal.{Refusal, taken, refused, _else-try_, tried, begun, ended, wrote, life-refusal, source-refusal, step-refusal, open-refusal, log-refusal}

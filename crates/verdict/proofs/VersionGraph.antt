@@ -5,9 +5,9 @@ use mathlib.Core.Logic.{_⊎_, inl, inr, ⊎-elim}
 use mathlib.Core.List.{List}
 use Prim.Native.Nat.{ℕ, suc, _≤_, _<_}
 use native.Mathlib.Omega.{arith}
-use Rattle.graph.specs.Tests.{_is_, _below_, _and_, _or_, some}
+use Rattle.words.specs.Tests.{_is_, _below_, _and_, _or_, some}
 use Rattle.graph.specs.Matrix.{takes-part, joined}
-use Rattle.graph.proofs.Truth.{decide, same-test, and→, →and, and-true, and-no-left, and-no-right, or→, →or-left, →or-right, or-no, or-false, →fails, fails→, is→, isnt→, →is, →isnt, →below, below→, →not-below, →upto, →not-upto, if-true, if-false, some→, →some, →none, none→, none-below, lowest-at, lowest-none}
+use Rattle.words.proofs.Truth.{decide, same-test, and→, →and, and-true, and-no-left, and-no-right, or→, →or-left, →or-right, or-no, or-false, →fails, fails→, is→, isnt→, →is, →isnt, →below, below→, →not-below, →upto, →not-upto, if-true, if-false, some→, →some, →none, none→, none-below, lowest-at, lowest-none}
 use Rattle.verdict.specs.Limits.{transactions}
 use Rattle.verdict.specs.Log.{steps, kind, tx, obj, src, reads, writes, committed, writer, commits-writer}
 use Rattle.verdict.specs.Clean.{clean, cleanness, judged, is-clean}

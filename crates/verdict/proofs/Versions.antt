@@ -4,10 +4,10 @@ use mathlib.Core.Bool.{Bool, true}
 use mathlib.Core.List.{List}
 use Prim.Native.Nat.{ℕ, suc, _≤_, _<_}
 use native.Mathlib.Omega.{arith}
-use Rattle.graph.specs.Tests.{_upto_, _and_, some, lowest}
+use Rattle.words.specs.Tests.{_upto_, _and_, some, lowest}
 use Rattle.verdict.specs.Log.{steps, tx, obj, writes, commits, committed, writer, commit-step, commits-writer, write-one-object}
 use Rattle.verdict.specs.Version.{after, next-commit, next-version}
-use Rattle.graph.proofs.Truth.{to-false, to-true, and→, →and, is→, →is, →isnt, upto→, →upto, below→, →below, if-true, if-false, some→, →some, lowest-is, lowest-none, lowest-at, lowest-le}
+use Rattle.words.proofs.Truth.{to-false, to-true, and→, →and, is→, →is, →isnt, upto→, →upto, below→, →below, if-true, if-false, some→, →some, lowest-is, lowest-none, lowest-at, lowest-le}
 use Rattle.verdict.proofs.WellFormed.{Well}
 
 -- t is a committed writer of x

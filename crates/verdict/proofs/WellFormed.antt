@@ -6,12 +6,12 @@ use mathlib.Core.List.{List}
 use Prim.Native.Nat.{ℕ, zero, suc, _≤_, _<_}
 use native.Mathlib.Omega.{arith}
 use native.Mathlib.Nat.{not-suc-le-zero}
-use Rattle.graph.specs.Tests.{_is_, _below_, _upto_, _and_, _or_, fails}
+use Rattle.words.specs.Tests.{_is_, _below_, _upto_, _and_, _or_, fails}
 use Rattle.verdict.specs.Limits.{transactions, objects, most-steps}
 use Rattle.verdict.specs.Log.{steps, kind, tx, obj, src, commits, writer}
 use Rattle.verdict.specs.Refusal.{Refusal, taken, refused, _at_when_, _else-try_, tried, object-allowed, source-allowed, begun, ended, wrote, range-refusal, life-refusal, source-refusal, step-refusal, log-refusal}
 use Rattle.verdict.specs.Walk.{InRange}
-use Rattle.graph.proofs.Truth.{decide, not-both, to-true, and→, →and, →or-left, →or-right, →fails, is→, →is, →isnt, upto→, below→, not-below→, some→, →some, if-true}
+use Rattle.words.proofs.Truth.{decide, not-both, to-true, and→, →and, →or-left, →or-right, →fails, is→, →is, →isnt, upto→, below→, not-below→, some→, →some, if-true}
 
 Is-taken : Refusal → Type 0
 Is-taken taken = Unit {0}

@@ -2,7 +2,7 @@
 use mathlib.Core.Path.{_≡_}
 use mathlib.Core.List.{List, [], _∷_}
 use Prim.Native.Nat.{ℕ}
-use Rattle.graph.specs.Lists.{zeros, entries}
+use Rattle.words.specs.Lists.{zeros, entries}
 use Rattle.verdict.specs.Limits.{transactions, witness-entries, work-bytes}
 use Rattle.verdict.specs.Refusal.{Refusal, taken, refused, _else-try_, log-refusal, search-refusal, work-refusal, witness-refusal}
 use Rattle.verdict.specs.Clean.{Cleanness, cleanness}

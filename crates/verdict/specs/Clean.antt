@@ -2,7 +2,7 @@
 use mathlib.Core.Bool.{Bool}
 use mathlib.Core.List.{List}
 use Prim.Native.Nat.{ℕ}
-use Rattle.graph.specs.Tests.{_is_, _below_, _and_, _or_, fails, if_then_else_, some, lowest}
+use Rattle.words.specs.Tests.{_is_, _below_, _and_, _or_, fails, if_then_else_, some, lowest}
 use Rattle.verdict.specs.Log.{steps, tx, obj, src, reads, writes, committed, aborted}
 
 -- what is wrong with a read, and at which step

@@ -2,7 +2,7 @@
 use mathlib.Core.Bool.{Bool}
 use mathlib.Core.List.{List}
 use Prim.Native.Nat.{ℕ, suc}
-use Rattle.graph.specs.Tests.{_is_, _and_, _or_, fails, some}
+use Rattle.words.specs.Tests.{_is_, _and_, _or_, fails, some}
 use Rattle.graph.specs.Shows.{Shown, Shows}
 use Rattle.verdict.specs.Log.{steps, kind, tx, obj, committed}
 use Rattle.verdict.specs.Answer.{Answer, shown}

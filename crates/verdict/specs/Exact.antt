@@ -2,7 +2,7 @@
 use mathlib.Core.Path.{_≡_}
 use mathlib.Core.List.{List}
 use Prim.Native.Nat.{ℕ}
-use Rattle.graph.specs.First.{dictionary, First, Never}
+use Rattle.words.specs.First.{dictionary, First, Never}
 use Rattle.graph.specs.Shows.{order}
 use Rattle.verdict.specs.Clean.{Fault, clean, unclean, cleanness}
 use Rattle.verdict.specs.Replay.{explains-loosely}

@@ -1,6 +1,6 @@
 -- The limits of transactions, objects, logs and lent buffers. Each is written here and, in the code, at the type that it limits.
 use Prim.Native.Nat.{ℕ}
-use Rattle.graph.specs.Tests.{_below_, _upto_, _and_, if_then_else_}
+use Rattle.words.specs.Tests.{_below_, _upto_, _and_, if_then_else_}
 use Rattle.verdict.specs.declared.limits.MadeTransaction.{MadeTransaction}
 use Rattle.verdict.specs.declared.limits.MadeTransaction.the-variants as made-transaction
 use Rattle.verdict.specs.declared.limits.MadeObject.{MadeObject}

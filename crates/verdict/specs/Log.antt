@@ -3,7 +3,7 @@ use mathlib.Core.Bool.{Bool}
 use mathlib.Core.List.{List}
 use Prim.Native.Nat.{ℕ, _+_, _*_, _/_}
 use lib.ListN.{length, getD}
-use Rattle.graph.specs.Tests.{_is_, _and_, some, count, lowest}
+use Rattle.words.specs.Tests.{_is_, _and_, some, count, lowest}
 
 module _ (log : List ℕ) where
   unfoldable pub steps : ℕ

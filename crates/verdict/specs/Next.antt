@@ -1,9 +1,9 @@
 -- "Next": the dictionary-first explaining order that comes later than the one handed in, or none.
 use mathlib.Core.List.{List, [], _∷_}
 use Prim.Native.Nat.{ℕ}
-use Rattle.graph.specs.Tests.{_is_, _and_, fails, if_then_else_}
-use Rattle.graph.specs.Lists.{all}
-use Rattle.graph.specs.First.{dictionary, First, Never, later}
+use Rattle.words.specs.Tests.{_is_, _and_, fails, if_then_else_}
+use Rattle.words.specs.Lists.{all}
+use Rattle.words.specs.First.{dictionary, First, Never, later}
 use Rattle.graph.specs.Shows.{order}
 use Rattle.verdict.specs.Refusal.{Refusal, _at_when_}
 use Rattle.verdict.specs.Replay.{explains}

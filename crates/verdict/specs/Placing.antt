@@ -4,9 +4,9 @@ use mathlib.Core.Bool.{Bool, true, false}
 use mathlib.Core.List.{List, [], _∷_, _++_}
 use Prim.Native.Nat.{ℕ, zero, suc, _+_, _*_, _≤_, _<_}
 use lib.ListN.{getD, take}
-use Rattle.graph.specs.Tests.{_is_, _and_, _or_, fails, if_then_else_}
-use Rattle.graph.specs.Lists.{member, all, distinct, entries}
-use Rattle.graph.specs.First.{dictionary, First, Never}
+use Rattle.words.specs.Tests.{_is_, _and_, _or_, fails, if_then_else_}
+use Rattle.words.specs.Lists.{member, all, distinct, entries}
+use Rattle.words.specs.First.{dictionary, First, Never}
 use Rattle.verdict.specs.Limits.{transactions, objects, witness-entries}
 use Rattle.verdict.specs.Log.{steps, tx, obj, src, committed, writer}
 use Rattle.verdict.specs.Clean.{judged-other}

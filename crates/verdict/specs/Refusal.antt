@@ -3,7 +3,7 @@ use mathlib.Core.Bool.{Bool, true, false}
 use mathlib.Core.List.{List}
 use Prim.Native.Nat.{ℕ, zero, suc, _%_}
 use lib.ListN.{length}
-use Rattle.graph.specs.Tests.{_is_, _below_, _upto_, _and_, _or_, fails, if_then_else_, some}
+use Rattle.words.specs.Tests.{_is_, _below_, _upto_, _and_, _or_, fails, if_then_else_, some}
 use Rattle.verdict.specs.Limits.{transactions, objects, most-steps, witness-entries, work-bytes, most-searched}
 use Rattle.verdict.specs.Log.{steps, kind, tx, obj, src, begins, writes, commits, aborts, committed-count}
 

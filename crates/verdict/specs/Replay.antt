@@ -2,8 +2,8 @@
 use mathlib.Core.Bool.{Bool}
 use mathlib.Core.List.{List, [], _∷_}
 use Prim.Native.Nat.{ℕ, suc}
-use Rattle.graph.specs.Tests.{_is_, _below_, _and_, _implies_, if_then_else_, every}
-use Rattle.graph.specs.Lists.{all, before}
+use Rattle.words.specs.Tests.{_is_, _below_, _and_, _implies_, if_then_else_, every}
+use Rattle.words.specs.Lists.{all, before}
 use Rattle.graph.specs.Order.{once-each}
 use Rattle.verdict.specs.Log.{steps, tx, obj, src, committed, writer, write-one-object, commit-step}
 use Rattle.verdict.specs.Clean.{judged-other, is-clean}

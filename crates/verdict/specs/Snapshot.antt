@@ -2,7 +2,7 @@
 use mathlib.Core.Bool.{Bool}
 use mathlib.Core.List.{List}
 use Prim.Native.Nat.{ℕ, suc}
-use Rattle.graph.specs.Tests.{_is_, _below_, _and_, _or_, fails, if_then_else_, some, lowest, highest}
+use Rattle.words.specs.Tests.{_is_, _below_, _and_, _or_, fails, if_then_else_, some, lowest, highest}
 use Rattle.verdict.specs.Log.{steps, kind, tx, obj, src, committed, begin-step, commit-step, commits-writer, write-one-object}
 use Rattle.verdict.specs.Clean.{judged-other}
 

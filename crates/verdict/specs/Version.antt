@@ -4,7 +4,7 @@ use mathlib.Core.Path.{_≡_}
 use mathlib.Core.Bool.{Bool}
 use mathlib.Core.List.{List}
 use Prim.Native.Nat.{ℕ, suc}
-use Rattle.graph.specs.Tests.{_is_, _below_, _upto_, _and_, _or_, fails, if_then_else_, some, lowest}
+use Rattle.words.specs.Tests.{_is_, _below_, _upto_, _and_, _or_, fails, if_then_else_, some, lowest}
 use Rattle.graph.specs.Shows.{Shown, Shows}
 use Rattle.verdict.specs.Log.{steps, kind, tx, obj, src, committed, commit-step, commits-writer}
 use Rattle.verdict.specs.Clean.{Fault, clean, unclean, cleanness, judged}

@@ -4,7 +4,7 @@ use mathlib.Core.Bool.{Bool, false}
 use mathlib.Core.List.{List, [], _∷_}
 use Prim.Native.Nat.{ℕ, zero, suc, _+_, _-_, _*_, _/_, _%_, _≤_, _<_}
 use lib.ListN.{length, getD, set, take, drop}
-use Rattle.graph.specs.Tests.{_is_, _below_, _upto_, _and_, _or_, fails, if_then_else_, some, lowest}
+use Rattle.words.specs.Tests.{_is_, _below_, _upto_, _and_, _or_, fails, if_then_else_, some, lowest}
 use Rattle.graph.specs.Shows.{Shown, Shows}
 use Rattle.graph.specs.Matrix.{takes-part}
 use Rattle.verdict.specs.Limits.{transactions, objects, work-bytes}

@@ -13,7 +13,7 @@ use crate::walk::seen;
 ghost use mathlib.Core.Path.{_≡_};
 ghost use Prim.Native.Nat.{_≤_, _<_, _+_, _*_};
 ghost use lib.ListN.{length, getD};
-ghost use Rattle.graph.specs.Tests.{lowest};
+ghost use Rattle.words.specs.Tests.{lowest};
 ghost use Rattle.verdict.specs.Limits.{transactions, objects};
 ghost use Rattle.verdict.specs.Log.{steps};
 ghost use Rattle.verdict.specs.Refusal.{taken, log-refusal};

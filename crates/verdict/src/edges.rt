@@ -6,7 +6,7 @@ use crate::walk::index;
 ghost use mathlib.Core.Path.{_≡_};
 ghost use Prim.Native.Nat.{_≤_};
 ghost use lib.ListN.{length};
-ghost use Rattle.graph.specs.Lists.{zeros};
+ghost use Rattle.words.specs.Lists.{zeros};
 ghost use Rattle.graph.specs.Matrix.{takes-part, joined};
 ghost use Rattle.verdict.specs.Limits.{transactions, witness-entries, work-bytes};
 ghost use Rattle.verdict.specs.Refusal.{taken, log-refusal};

@@ -10,7 +10,7 @@ use crate::search::find_order;
 use crate::walk::clear;
 use crate::walk::committed;
 ghost use mathlib.Core.Path.{_≡_};
-ghost use Rattle.graph.specs.Tests.{_is_, fails};
+ghost use Rattle.words.specs.Tests.{_is_, fails};
 ghost use Rattle.verdict.specs.Limits.{witness-entries, work-bytes};
 ghost use Rattle.verdict.specs.Refusal.{_at_when_, _else-try_, log-refusal, search-refusal};
 ghost use Rattle.verdict.specs.Said.{said-refusal};

@@ -12,7 +12,7 @@ use crate::walk::pair_marked;
 ghost use mathlib.Core.Path.{_≡_};
 ghost use Prim.Native.Nat.{ℕ, suc, _≤_, _+_, _*_};
 ghost use lib.ListN.{length};
-ghost use Rattle.graph.specs.Tests.{_is_, _below_, _upto_, fails, if_then_else_};
+ghost use Rattle.words.specs.Tests.{_is_, _below_, _upto_, fails, if_then_else_};
 ghost use Rattle.verdict.specs.Limits.{transactions, objects, witness-entries, work-bytes};
 ghost use Rattle.verdict.specs.Log.{steps, tx};
 ghost use Rattle.verdict.specs.Refusal.{_at_when_, _else-try_, tried, begun, ended, range-refusal, life-refusal, source-refusal, step-refusal, open-refusal, log-refusal};

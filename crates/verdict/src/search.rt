@@ -9,12 +9,12 @@ ghost use mathlib.Core.Path.{_≡_};
 ghost use mathlib.Core.Bool.{true};
 ghost use Prim.Native.Nat.{ℕ, suc, _≤_, _<_, _+_, _*_};
 ghost use lib.ListN.{length, getD, take};
-ghost use Rattle.graph.specs.Tests.{_is_, fails, every, count, if_then_else_};
+ghost use Rattle.words.specs.Tests.{_is_, fails, every, count, if_then_else_};
 ghost use Rattle.verdict.specs.Limits.{transactions, objects, most-searched, witness-entries};
 ghost use Rattle.verdict.specs.Log.{steps, committed, committed-count};
 ghost use Rattle.verdict.specs.Refusal.{taken, log-refusal};
 ghost use Rattle.verdict.specs.Clean.{is-clean};
-ghost use Rattle.graph.specs.Lists.{zeros, entries};
+ghost use Rattle.words.specs.Lists.{zeros, entries};
 ghost use Rattle.verdict.specs.Walk.{Marked};
 ghost use Rattle.verdict.specs.Placing.{needing, allows, asks, need, Needs, Writes, Placed, Searched, Found};
 

@@ -1,7 +1,7 @@
 use mathlib.Core.Path.{_≡_, ap, _∙_}
 use native.Mathlib.Omega.{arith}
 use lib.ListN.{length}
-use Rattle.graph.specs.Lists.{zeros}
+use Rattle.words.specs.Lists.{zeros}
 use Rattle.graph.proofs.Answers.{order-short, next-nothing, next-found}
 use borrow.Author.Needs.{needs}
 use Rattle.graph.proofs.next.Statement.{statement}

@@ -1,7 +1,7 @@
 use mathlib.Core.Path.{_≡_, sym, ap, _∙_}
 use native.Mathlib.Omega.{arith}
 use lib.ListN.{length}
-use Rattle.graph.specs.Lists.{zeros}
+use Rattle.words.specs.Lists.{zeros}
 use Rattle.graph.proofs.Sized.{most}
 use Rattle.graph.proofs.Answers.{sort-order, sort-cycle}
 use borrow.Author.Needs.{needs}

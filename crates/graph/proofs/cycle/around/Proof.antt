@@ -2,7 +2,7 @@ use mathlib.Core.Path.{sym, _∙_}
 use native.Mathlib.Omega.{arith}
 use borrow.Author.Needs.{needs}
 use borrow.Author.Tests.{not-true}
-use Rattle.graph.proofs.Truth.{to-false}
+use Rattle.words.proofs.Truth.{to-false}
 use Rattle.graph.proofs.Marks.{none-from, no-loop}
 use Rattle.graph.proofs.Far.{far-alone, far-brief, far-sunk}
 use Rattle.graph.proofs.cycle.around.Statement.{statement}

@@ -3,10 +3,10 @@ use mathlib.Core.Logic.{inr, ⊎-elim}
 use Prim.Native.Nat.{_+_, _≤_, _-_}
 use native.Mathlib.Omega.{arith}
 use lib.ListN.{length}
-use Rattle.graph.specs.Tests.{_is_, _below_, _and_, some}
+use Rattle.words.specs.Tests.{_is_, _below_, _and_, some}
 use Rattle.graph.specs.Matrix.{joined}
 use Rattle.graph.specs.Steps.{entry, Marked}
-use Rattle.graph.proofs.Truth.{not-both, to-false, and→, →and, and-true, and-no-left, and-no-right, →below, →not-below, →is, →isnt, none-next}
+use Rattle.words.proofs.Truth.{not-both, to-false, and→, →and, and-true, and-no-left, and-no-right, →below, →not-below, →is, →isnt, none-next}
 use Rattle.graph.proofs.Marks.{zero-out, joined→}
 use Rattle.graph.proofs.Layers.{marked-old, marked-for, marked-past, marked-last}
 use Rattle.graph.proofs.cycle.layer.Statement.{statement}

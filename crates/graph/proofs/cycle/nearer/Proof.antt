@@ -3,10 +3,10 @@ use mathlib.Core.Bool.{false}
 use mathlib.Core.Logic.{⊎-elim}
 use Prim.Native.Nat.{_<_, _≤_, _-_}
 use native.Mathlib.Omega.{arith}
-use Rattle.graph.specs.Tests.{_is_, _below_, _and_, some}
+use Rattle.words.specs.Tests.{_is_, _below_, _and_, some}
 use Rattle.graph.specs.Matrix.{joined}
 use Rattle.graph.specs.Steps.{entry}
-use Rattle.graph.proofs.Truth.{to-false, and→, →and, and-no-left, and-no-right, below→, →below, →is, →isnt, →none, none-next, none-below, lowest-found, lowest-none}
+use Rattle.words.proofs.Truth.{to-false, and→, →and, and-no-left, and-no-right, below→, →below, →is, →isnt, →none, none-next, none-below, lowest-found, lowest-none}
 use Rattle.graph.proofs.cycle.nearer.Statement.{statement}
 use Rattle.graph.proofs.cycle.nearer.Tie as tie
 

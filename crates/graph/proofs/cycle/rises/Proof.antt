@@ -2,9 +2,9 @@ use mathlib.Core.Path.{_≡_, sym, _∙_}
 use mathlib.Core.Bool.{false}
 use Prim.Native.Nat.{_<_, _≤_, _-_}
 use native.Mathlib.Omega.{arith}
-use Rattle.graph.specs.Tests.{_below_, _and_, some}
+use Rattle.words.specs.Tests.{_below_, _and_, some}
 use Rattle.graph.specs.Matrix.{joined}
-use Rattle.graph.proofs.Truth.{to-false, and→, →and, and-no-right, below→, →below, →some, →none, none-next, none-below}
+use Rattle.words.proofs.Truth.{to-false, and→, →and, and-no-right, below→, →below, →some, →none, none-next, none-below}
 use Rattle.graph.proofs.cycle.rises.Statement.{statement}
 use Rattle.graph.proofs.cycle.rises.Tie as tie
 

@@ -3,10 +3,10 @@ use mathlib.Core.Logic.{inr, ⊎-elim}
 use Prim.Native.Nat.{_≤_, _-_}
 use native.Mathlib.Omega.{arith}
 use lib.ListN.{length, length-set}
-use Rattle.graph.specs.Tests.{_below_, _and_}
+use Rattle.words.specs.Tests.{_below_, _and_}
 use Rattle.graph.specs.Matrix.{joined}
 use Rattle.graph.specs.Steps.{entry, Marked}
-use Rattle.graph.proofs.Truth.{to-false, and→, below→}
+use Rattle.words.proofs.Truth.{to-false, and→, below→}
 use Rattle.graph.proofs.Layers.{marked-here, marked-not, marked-all}
 use Rattle.graph.proofs.cycle.spread.Statement.{statement}
 use Rattle.graph.proofs.cycle.spread.Tie as tie

@@ -2,10 +2,10 @@ use mathlib.Core.Path.{_≡_, refl, sym, _∙_}
 use mathlib.Core.Bool.{false}
 use Prim.Native.Nat.{_≤_, _-_}
 use native.Mathlib.Omega.{arith}
-use Rattle.graph.specs.Tests.{some}
+use Rattle.words.specs.Tests.{some}
 use Rattle.graph.specs.Matrix.{joined}
 use Rattle.graph.proofs.Marks.{zero-out, joined→}
-use Rattle.graph.proofs.Truth.{not-both, to-false, →some, none-next, none-below}
+use Rattle.words.proofs.Truth.{not-both, to-false, →some, none-next, none-below}
 use Rattle.graph.proofs.left.blocked.Statement.{statement}
 use Rattle.graph.proofs.left.blocked.Tie as tie
 

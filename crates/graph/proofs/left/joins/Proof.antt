@@ -1,8 +1,8 @@
-use Rattle.graph.specs.Tests.{_is_}
+use Rattle.words.specs.Tests.{_is_}
 use Rattle.graph.specs.Matrix.{joined}
 use mathlib.Core.Path.{sym, _∙_}
 use native.Mathlib.Omega.{arith}
-use Rattle.graph.proofs.Truth.{to-false, not-fails, and-true, →and, →fails, →isnt}
+use Rattle.words.proofs.Truth.{to-false, not-fails, and-true, →and, →fails, →isnt}
 use Rattle.graph.proofs.Marks.{joined→, part→, →part}
 use borrow.Author.Needs.{needs}
 use Rattle.graph.proofs.left.joins.Statement.{statement}

@@ -2,9 +2,9 @@ use mathlib.Core.Path.{_≡_, sym, _∙_}
 use mathlib.Core.Bool.{false}
 use Prim.Native.Nat.{_≤_, _-_}
 use native.Mathlib.Omega.{arith}
-use Rattle.graph.specs.Tests.{_upto_, _and_, some}
+use Rattle.words.specs.Tests.{_upto_, _and_, some}
 use Rattle.graph.specs.Steps.{may-begin}
-use Rattle.graph.proofs.Truth.{to-false, and→, →and, and-no-right, upto→, →upto, →none, none-next, none-below, lowest-found, lowest-none}
+use Rattle.words.proofs.Truth.{to-false, and→, →and, and-no-right, upto→, →upto, →none, none-next, none-below, lowest-found, lowest-none}
 use Rattle.graph.proofs.left.lowest_beginning.Statement.{statement}
 use Rattle.graph.proofs.left.lowest_beginning.Tie as tie
 

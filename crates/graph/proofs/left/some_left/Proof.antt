@@ -2,9 +2,9 @@ use mathlib.Core.Path.{_≡_, refl, sym}
 use mathlib.Core.Bool.{false}
 use Prim.Native.Nat.{_≤_, _-_}
 use native.Mathlib.Omega.{arith}
-use Rattle.graph.specs.Tests.{some}
+use Rattle.words.specs.Tests.{some}
 use Rattle.graph.specs.Matrix.{takes-part}
-use Rattle.graph.proofs.Truth.{to-false, →some, none-next, none-below}
+use Rattle.words.proofs.Truth.{to-false, →some, none-next, none-below}
 use Rattle.graph.proofs.Marks.{zero-out, part→, →part}
 use Rattle.graph.proofs.left.some_left.Statement.{statement}
 use Rattle.graph.proofs.left.some_left.Tie as tie

@@ -2,7 +2,7 @@ use mathlib.Core.Path.{_≡_}
 use Prim.Native.Nat.{suc, _≤_}
 use native.Mathlib.Omega.{arith}
 use lib.ListN.{length, length-set}
-use Rattle.graph.specs.Tests.{count}
+use Rattle.words.specs.Tests.{count}
 use Rattle.graph.specs.Matrix.{takes-part}
 use Rattle.graph.specs.Steps.{unmarked}
 use Rattle.graph.proofs.Begins.{lowest→, lowest-less}

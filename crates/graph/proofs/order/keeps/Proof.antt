@@ -4,10 +4,10 @@ use native.Mathlib.Omega.{arith}
 use lib.ListN.{length, getD, drop, length-set}
 use borrow.Author.Needs.{needs}
 use borrow.Author.Tests.{not-true, not-false}
-use Rattle.graph.specs.Tests.{fails}
+use Rattle.words.specs.Tests.{fails}
 use Rattle.graph.specs.Matrix.{matrix-order}
 use Rattle.graph.specs.Steps.{unmarked}
-use Rattle.graph.proofs.Truth.{not-fails, and-true, and-no-left}
+use Rattle.words.proofs.Truth.{not-fails, and-true, and-no-left}
 use Rattle.graph.proofs.Peel.{free→}
 use Rattle.graph.proofs.Marks.{Part, part→, matrix-turn, matrix-end}
 use Rattle.graph.proofs.order.keeps.Statement.{statement}

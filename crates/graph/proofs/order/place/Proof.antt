@@ -3,7 +3,7 @@ use Prim.Native.Nat.{_<_, _≤_, _-_}
 use native.Mathlib.Omega.{arith}
 use lib.ListN.{length, length-set}
 use borrow.Author.Needs.{needs}
-use Rattle.graph.specs.Tests.{_upto_, _and_, lowest}
+use Rattle.words.specs.Tests.{_upto_, _and_, lowest}
 use Rattle.graph.specs.Steps.{may-begin, unmarked}
 use Rattle.graph.proofs.Filled.{Filled, filled-none, filled-next, filled-more, filled-all}
 use Rattle.graph.proofs.order.place.Statement.{statement}

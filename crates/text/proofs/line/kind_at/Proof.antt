@@ -2,7 +2,7 @@
 use borrow.Author.Needs.{needs}
 use mathlib.Core.Path.{sym, _∙_}
 use lib.ListN.{drop}
-use Rattle.graph.specs.Tests.{_is_, if_then_else_}
+use Rattle.words.specs.Tests.{_is_, if_then_else_}
 use Rattle.text.specs.Bytes.{bytes}
 use Rattle.text.specs.Line.{word, item, op}
 use Rattle.text.proofs.Words.{begin, read, write, commit, abort, op-stands, no-kind}

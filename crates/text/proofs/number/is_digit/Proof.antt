@@ -1,8 +1,8 @@
 -- `is_digit` meets its contract: it tests both ends of the range of digits.
 use mathlib.Core.Path.{_≡_}
 use mathlib.Core.Bool.{true, false}
-use Rattle.graph.specs.Tests.{_upto_, _and_}
-use Rattle.graph.proofs.Truth.{→upto, →not-upto}
+use Rattle.words.specs.Tests.{_upto_, _and_}
+use Rattle.words.proofs.Truth.{→upto, →not-upto}
 use Rattle.text.specs.Finds.{is-digit}
 use Rattle.text.proofs.number.is_digit.Statement.{statement}
 use Rattle.text.proofs.number.is_digit.Tie as tie

@@ -1,8 +1,8 @@
 -- `is_sized` meets its contract.
 use borrow.Author.Needs.{needs}
 use mathlib.Core.Path.{sym}
-use Rattle.graph.specs.Tests.{_is_}
-use Rattle.graph.proofs.Truth.{→and, and-no-left, and-no-right, and-true, →is, →isnt}
+use Rattle.words.specs.Tests.{_is_}
+use Rattle.words.proofs.Truth.{→and, and-no-left, and-no-right, and-true, →is, →isnt}
 use Rattle.text.specs.ReportCall.{sized}
 use Rattle.text.proofs.reports.is_sized.Statement.{statement}
 use Rattle.text.proofs.reports.is_sized.Tie as tie

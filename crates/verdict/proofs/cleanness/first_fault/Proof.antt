@@ -5,12 +5,12 @@ use Prim.Native.Nat.{ℕ, _-_, _/_, _≤_}
 use native.Mathlib.Omega.{arith}
 use borrow.Author.Needs.{needs}
 use lib.ListN.{length}
-use Rattle.graph.specs.Tests.{some}
+use Rattle.words.specs.Tests.{some}
 use Rattle.verdict.specs.Log.{steps}
 use Rattle.verdict.specs.Refusal.{taken, log-refusal}
 use Rattle.verdict.specs.Clean.{faulty-read}
 use Rattle.verdict.specs.Walk.{Committed, LastWrites}
-use Rattle.graph.proofs.Truth.{none→, lowest-none, lowest-at, none-next}
+use Rattle.words.proofs.Truth.{none→, lowest-none, lowest-at, none-next}
 use Rattle.verdict.proofs.cleanness.first_fault.Statement.{statement}
 use Rattle.verdict.proofs.cleanness.first_fault.Tie as tie
 

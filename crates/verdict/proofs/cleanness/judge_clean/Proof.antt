@@ -3,7 +3,7 @@ use mathlib.Core.List.{List}
 use Prim.Native.Nat.{ℕ}
 use native.Mathlib.Omega.{arith}
 use borrow.Author.Needs.{needs}
-use Rattle.graph.specs.Tests.{lowest}
+use Rattle.words.specs.Tests.{lowest}
 use Rattle.verdict.specs.Log.{steps, src, aborts, aborted}
 use Rattle.verdict.specs.Clean.{faulty-read}
 use Rattle.verdict.specs.Said.{said-fault, said-clean}

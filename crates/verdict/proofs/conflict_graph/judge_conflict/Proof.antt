@@ -1,5 +1,5 @@
 use mathlib.Core.Path.{ap, _∙_}
-use Rattle.graph.specs.Lists.{zeros}
+use Rattle.words.specs.Lists.{zeros}
 use Rattle.verdict.proofs.Matrices.{no-edges}
 use Rattle.verdict.proofs.ConflictGraph.{conflict-answer}
 use borrow.Author.Needs.{needs}

@@ -4,12 +4,12 @@ use mathlib.Core.Logic.{⊎-elim}
 use mathlib.Core.List.{List}
 use Prim.Native.Nat.{ℕ, _-_, _≤_}
 use borrow.Author.Tests.{not-true, not-false}
-use Rattle.graph.specs.Tests.{_or_, some}
+use Rattle.words.specs.Tests.{_or_, some}
 use Rattle.graph.specs.Matrix.{takes-part}
 use Rattle.verdict.specs.Limits.{transactions}
 use Rattle.verdict.specs.Log.{steps, tx, committed}
 use Rattle.verdict.specs.Walk.{Matrix, conflict-pair, conflicts-until}
-use Rattle.graph.proofs.Truth.{or-no}
+use Rattle.words.proofs.Truth.{or-no}
 use Rattle.verdict.proofs.WellFormed.{well-formed}
 use Rattle.verdict.proofs.Matrices.{same-edges, walk-edge, walk-on}
 use Rattle.verdict.proofs.ConflictGraph.{ends-none, pair-edge, pair-open, pair-apart}

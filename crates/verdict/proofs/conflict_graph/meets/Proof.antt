@@ -1,7 +1,7 @@
 use mathlib.Core.Path.{sym, _∙_}
-use Rattle.graph.specs.Tests.{_is_}
+use Rattle.words.specs.Tests.{_is_}
 use Rattle.verdict.specs.Log.{kind, obj}
-use Rattle.graph.proofs.Truth.{→or-left, or-false, →is, →isnt}
+use Rattle.words.proofs.Truth.{→or-left, or-false, →is, →isnt}
 use Rattle.verdict.proofs.ConflictGraph.{other-object, no-touch, write-meets, read-meets}
 use borrow.Author.Needs.{needs}
 use Rattle.verdict.proofs.conflict_graph.meets.Statement.{statement}

@@ -1,5 +1,5 @@
 use mathlib.Core.Path.{sym, ap, _∙_}
-use Rattle.graph.specs.Lists.{zeros}
+use Rattle.words.specs.Lists.{zeros}
 use Rattle.verdict.proofs.Matrices.{retold, sorted}
 use borrow.Author.Needs.{needs}
 use Rattle.verdict.proofs.edges.show.Statement.{statement}

@@ -1,4 +1,4 @@
-use Rattle.graph.specs.Tests.{_is_}
+use Rattle.words.specs.Tests.{_is_}
 use Rattle.verdict.proofs.Matrices.{mark-tells}
 use borrow.Author.Needs.{needs}
 use native.Mathlib.Omega.{arith}

@@ -2,7 +2,7 @@ use mathlib.Core.Path.{sym, ap, _∙_}
 use borrow.Author.Needs.{needs}
 use Rattle.verdict.specs.Refusal.{search-refusal}
 use Rattle.verdict.specs.Said.{said-refusal}
-use Rattle.graph.proofs.Truth.{→below, →not-below}
+use Rattle.words.proofs.Truth.{→below, →not-below}
 use Rattle.verdict.proofs.Refused.{when-yes, when-no, tried-refused, tried-taken, try-more}
 use Rattle.verdict.proofs.Steps.{said-refused, said-passed}
 use Rattle.verdict.proofs.exactness.admit_search.Statement.{statement}

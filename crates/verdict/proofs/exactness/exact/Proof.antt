@@ -4,12 +4,12 @@ use mathlib.Core.List.{List}
 use Prim.Native.Nat.{ℕ}
 use native.Mathlib.Omega.{arith}
 use borrow.Author.Needs.{needs}
-use Rattle.graph.specs.Lists.{zeros}
+use Rattle.words.specs.Lists.{zeros}
 use Rattle.verdict.specs.Refusal.{_else-try_, log-refusal, search-refusal, work-refusal, witness-refusal}
 use Rattle.verdict.specs.Clean.{clean, cleanness}
 use Rattle.verdict.specs.Said.{said-refusal, said}
 use Rattle.verdict.specs.Call.{turned-away, answered}
-use Rattle.graph.proofs.Truth.{not-below→}
+use Rattle.words.proofs.Truth.{not-below→}
 use Rattle.verdict.proofs.WellFormed.{else-try→, when→}
 use Rattle.verdict.proofs.Frame.{admitted, not-admitted, nothing-left, witness-left}
 use Rattle.verdict.proofs.Faults.{told-clean, told-unclean}

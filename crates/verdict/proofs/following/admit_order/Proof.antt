@@ -1,7 +1,7 @@
 use mathlib.Core.Path.{sym, ap, _∙_}
 use borrow.Author.Needs.{needs}
 use Rattle.verdict.specs.Said.{said-refusal}
-use Rattle.graph.proofs.Truth.{→fails, →not-fails, →is, →isnt}
+use Rattle.words.proofs.Truth.{→fails, →not-fails, →is, →isnt}
 use Rattle.verdict.proofs.Refused.{first-yes, first-no}
 use Rattle.verdict.proofs.following.admit_order.Statement.{statement}
 use Rattle.verdict.proofs.following.admit_order.Tie as tie

@@ -4,10 +4,10 @@ use mathlib.Core.List.{List}
 use Prim.Native.Nat.{ℕ}
 use native.Mathlib.Omega.{arith}
 use borrow.Author.Needs.{needs}
-use Rattle.graph.specs.Lists.{zeros}
+use Rattle.words.specs.Lists.{zeros}
 use Rattle.verdict.specs.Clean.{cleanness}
 use Rattle.verdict.specs.Call.{turned-away}
-use Rattle.graph.proofs.Truth.{to-false}
+use Rattle.words.proofs.Truth.{to-false}
 use Rattle.verdict.proofs.Matrices.{no-edges}
 use Rattle.verdict.proofs.NextLaws.{not-clean}
 use Rattle.verdict.proofs.Faults.{told-clean, told-unclean}

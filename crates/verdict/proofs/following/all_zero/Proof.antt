@@ -2,8 +2,8 @@ use mathlib.Core.Path.{_≡_, refl, sym, _∙_}
 use Prim.Native.Nat.{_-_, _≤_}
 use native.Mathlib.Omega.{arith}
 use lib.ListN.{length, drop}
-use Rattle.graph.specs.Tests.{_is_}
-use Rattle.graph.specs.Lists.{all}
+use Rattle.words.specs.Tests.{_is_}
+use Rattle.words.specs.Lists.{all}
 use Rattle.verdict.proofs.NextLaws.{zero-more, zero-not, zero-all}
 use Rattle.verdict.proofs.following.all_zero.Statement.{statement}
 use Rattle.verdict.proofs.following.all_zero.Tie as tie

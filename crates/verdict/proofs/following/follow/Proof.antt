@@ -4,7 +4,7 @@ use Prim.Native.Nat.{ℕ}
 use borrow.Author.Needs.{needs}
 use borrow.Author.Tests.{not-true, not-false}
 use lib.ListN.{take}
-use Rattle.graph.specs.Lists.{zeros}
+use Rattle.words.specs.Lists.{zeros}
 use Rattle.verdict.specs.Limits.{transactions}
 use Rattle.verdict.specs.Call.{turned-away}
 use Rattle.verdict.proofs.NextLaws.{explains-matrix, next-found, more-behind, not-listed, on-the-list, at-front, retold-later}

@@ -1,6 +1,6 @@
 use mathlib.Core.Path.{sym, ap, _∙_}
 use Rattle.verdict.specs.Said.{said-refusal}
-use Rattle.graph.proofs.Truth.{→fails, →not-fails, →is, →isnt}
+use Rattle.words.proofs.Truth.{→fails, →not-fails, →is, →isnt}
 use Rattle.verdict.proofs.Refused.{first-yes, first-no}
 use borrow.Author.Needs.{needs}
 use Rattle.verdict.proofs.refusal.admit_witness.Statement.{statement}

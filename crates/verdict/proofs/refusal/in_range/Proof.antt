@@ -2,11 +2,11 @@ use mathlib.Core.Path.{_≡_, sym, _∙_}
 use Prim.Native.Nat.{ℕ}
 use native.Mathlib.Omega.{arith}
 use borrow.Author.Needs.{needs}
-use Rattle.graph.specs.Tests.{_is_, fails}
+use Rattle.words.specs.Tests.{_is_, fails}
 use Rattle.verdict.specs.Limits.{make-transaction}
 use Rattle.verdict.specs.Refusal.{_at_when_}
 use Rattle.verdict.specs.Walk.{numbered, in-range}
-use Rattle.graph.proofs.Truth.{→fails, →not-fails}
+use Rattle.words.proofs.Truth.{→fails, →not-fails}
 use borrow.Author.Tests.{not-true, not-false}
 use Rattle.verdict.proofs.Refused.{when-yes, when-no, first-yes, first-no, chose-first, chose-second}
 use Rattle.verdict.proofs.refusal.in_range.Statement.{statement}

@@ -1,5 +1,5 @@
 use mathlib.Core.Path.{sym}
-use Rattle.graph.specs.Tests.{_is_, fails}
+use Rattle.words.specs.Tests.{_is_, fails}
 use Rattle.verdict.specs.Log.{kind, tx}
 use Rattle.verdict.specs.Refusal.{_at_when_}
 use Rattle.verdict.specs.Walk.{numbered}

@@ -2,9 +2,9 @@ use mathlib.Core.Path.{_≡_, sym, _∙_}
 use Prim.Native.Nat.{ℕ}
 use native.Mathlib.Omega.{arith}
 use borrow.Author.Needs.{needs}
-use Rattle.graph.specs.Tests.{_is_}
+use Rattle.words.specs.Tests.{_is_}
 use Rattle.verdict.specs.Limits.{make-object}
-use Rattle.graph.proofs.Truth.{if-true, if-false}
+use Rattle.words.proofs.Truth.{if-true, if-false}
 use Rattle.verdict.proofs.Refused.{chose-first, chose-second}
 use Rattle.verdict.proofs.refusal.object_fits.Statement.{statement}
 use Rattle.verdict.proofs.refusal.object_fits.Tie as tie

@@ -1,6 +1,6 @@
 use mathlib.Core.Path.{sym}
-use Rattle.graph.specs.Tests.{_is_, _upto_}
-use Rattle.graph.proofs.Truth.{if-true, if-false}
+use Rattle.words.specs.Tests.{_is_, _upto_}
+use Rattle.words.proofs.Truth.{if-true, if-false}
 use Rattle.verdict.proofs.refusal.source_fits.Statement.{statement}
 use Rattle.verdict.proofs.refusal.source_fits.Tie as tie
 

@@ -1,6 +1,6 @@
 use mathlib.Core.Path.{sym}
 use mathlib.Core.Logic.{inl, inr, ⊎-elim}
-use Rattle.graph.specs.Tests.{_is_, fails}
+use Rattle.words.specs.Tests.{_is_, fails}
 use Rattle.verdict.specs.Log.{kind, tx, obj, src}
 use Rattle.verdict.specs.Refusal.{_at_when_}
 use Rattle.verdict.specs.Walk.{numbered}

@@ -5,7 +5,7 @@ use Prim.Native.Nat.{ℕ, _+_, _-_, _≤_, _<_}
 use native.Mathlib.Omega.{arith}
 use borrow.Author.Needs.{needs}
 use lib.ListN.{length, take, set}
-use Rattle.graph.specs.First.{Never}
+use Rattle.words.specs.First.{Never}
 use Rattle.verdict.specs.Limits.{transactions}
 use Rattle.verdict.specs.Log.{writes}
 use Rattle.verdict.specs.Replay.{explains-loosely}

@@ -4,10 +4,10 @@ use Prim.Native.Nat.{ℕ, _+_, _-_, _*_, _≤_, _<_}
 use native.Mathlib.Omega.{arith}
 use borrow.Author.Needs.{needs}
 use lib.ListN.{length, getD, length-set}
-use Rattle.graph.specs.Tests.{_is_, fails, if_then_else_}
+use Rattle.words.specs.Tests.{_is_, fails, if_then_else_}
 use Rattle.verdict.specs.Limits.{transactions, objects}
 use Rattle.verdict.specs.Log.{writes}
-use Rattle.graph.proofs.Truth.{→fails, →not-fails, →is, →isnt, if-true, if-false}
+use Rattle.words.proofs.Truth.{→fails, →not-fails, →is, →isnt, if-true, if-false}
 use Rattle.verdict.proofs.Marks.{table-more}
 use Rattle.verdict.proofs.search.after.Statement.{statement}
 use Rattle.verdict.proofs.search.after.Tie as tie

@@ -5,10 +5,10 @@ use Prim.Native.Nat.{ℕ, _-_, _/_, _≤_, _<_}
 use native.Mathlib.Omega.{arith}
 use borrow.Author.Needs.{needs}
 use lib.ListN.{length, getD, length-set}
-use Rattle.graph.specs.Tests.{if_then_else_}
+use Rattle.words.specs.Tests.{if_then_else_}
 use Rattle.verdict.specs.Log.{steps, commits, committed}
 use Rattle.verdict.specs.Walk.{does}
-use Rattle.graph.proofs.Truth.{if-true, if-false}
+use Rattle.words.proofs.Truth.{if-true, if-false}
 use Rattle.verdict.proofs.Marks.{table-more, ones}
 use Rattle.verdict.proofs.search.committed_marks.Statement.{statement}
 use Rattle.verdict.proofs.search.committed_marks.Tie as tie

@@ -4,8 +4,8 @@ use Prim.Native.Nat.{suc, _-_, _≤_}
 use native.Mathlib.Omega.{arith}
 use native.Mathlib.Numerals.{add-one}
 use lib.ListN.{getD}
-use Rattle.graph.specs.Tests.{_is_, fails, count}
-use Rattle.graph.proofs.Truth.{→fails, →not-fails, →is, →isnt, count-yes, count-no}
+use Rattle.words.specs.Tests.{_is_, fails, count}
+use Rattle.words.proofs.Truth.{→fails, →not-fails, →is, →isnt, count-yes, count-no}
 use Rattle.verdict.proofs.search.count_marks.Statement.{statement}
 use Rattle.verdict.proofs.search.count_marks.Tie as tie
 

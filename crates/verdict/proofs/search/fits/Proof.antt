@@ -5,10 +5,10 @@ use Prim.Native.Nat.{ℕ, suc, _+_, _-_, _*_, _≤_}
 use native.Mathlib.Omega.{arith}
 use borrow.Author.Needs.{needs}
 use lib.ListN.{getD}
-use Rattle.graph.specs.Tests.{every}
+use Rattle.words.specs.Tests.{every}
 use Rattle.verdict.specs.Limits.{transactions, objects}
 use Rattle.verdict.specs.Placing.{allows, need}
-use Rattle.graph.proofs.Truth.{not-both, to-false, →and, →or-left, →or-right, or-false, →is, →isnt, every→, every-next}
+use Rattle.words.proofs.Truth.{not-both, to-false, →and, →or-left, →or-right, or-false, →is, →isnt, every→, every-next}
 use Rattle.verdict.proofs.search.fits.Statement.{statement}
 use Rattle.verdict.proofs.search.fits.Tie as tie
 

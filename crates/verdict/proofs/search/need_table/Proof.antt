@@ -5,11 +5,11 @@ use Prim.Native.Nat.{ℕ, _-_, _/_, _%_, _≤_, _<_}
 use native.Mathlib.Omega.{arith}
 use borrow.Author.Needs.{needs}
 use lib.ListN.{length, getD, length-set}
-use Rattle.graph.specs.Tests.{_is_, fails, if_then_else_}
+use Rattle.words.specs.Tests.{_is_, fails, if_then_else_}
 use Rattle.verdict.specs.Limits.{objects}
 use Rattle.verdict.specs.Log.{steps, writer}
 use Rattle.verdict.specs.Placing.{need}
-use Rattle.graph.proofs.Truth.{→fails, →not-fails, →is, →isnt, if-true, if-false}
+use Rattle.words.proofs.Truth.{→fails, →not-fails, →is, →isnt, if-true, if-false}
 use Rattle.verdict.proofs.Marks.{table-more}
 use Rattle.verdict.proofs.Loosely.{needs-from}
 use Rattle.verdict.proofs.search.need_table.Statement.{statement}

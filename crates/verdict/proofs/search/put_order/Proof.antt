@@ -4,7 +4,7 @@ use Prim.Native.Nat.{ℕ, _-_, _≤_}
 use native.Mathlib.Omega.{arith}
 use borrow.Author.Needs.{needs}
 use lib.ListN.{length, getD, take, set, length-set}
-use Rattle.graph.specs.Lists.{entries}
+use Rattle.words.specs.Lists.{entries}
 use Rattle.verdict.specs.Limits.{witness-entries, most-searched}
 use Rattle.verdict.proofs.Searching.{put-next}
 use Rattle.verdict.proofs.Fill.{zeros-length}

@@ -5,10 +5,10 @@ use Prim.Native.Nat.{ℕ, _-_, _/_, _%_, _≤_, _<_}
 use native.Mathlib.Omega.{arith}
 use borrow.Author.Needs.{needs}
 use lib.ListN.{length, getD, length-set}
-use Rattle.graph.specs.Tests.{_is_, _and_, fails, if_then_else_}
+use Rattle.words.specs.Tests.{_is_, _and_, fails, if_then_else_}
 use Rattle.verdict.specs.Limits.{objects}
 use Rattle.verdict.specs.Log.{steps, writer}
-use Rattle.graph.proofs.Truth.{→and, and-no-left, and-no-right, →fails, →not-fails, →is, →isnt, if-true, if-false, from-first}
+use Rattle.words.proofs.Truth.{→and, and-no-left, and-no-right, →fails, →not-fails, →is, →isnt, if-true, if-false, from-first}
 use Rattle.verdict.proofs.Marks.{table-more}
 use Rattle.verdict.proofs.Loosely.{writes-from}
 use Rattle.verdict.proofs.search.write_table.Statement.{statement}

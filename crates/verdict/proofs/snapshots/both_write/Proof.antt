@@ -1,6 +1,6 @@
 use mathlib.Core.Path.{sym}
 use borrow.Author.Needs.{needs}
-use Rattle.graph.proofs.Truth.{→and, and-no-left, and-no-right, →fails, →not-fails, →is, →isnt}
+use Rattle.words.proofs.Truth.{→and, and-no-left, and-no-right, →fails, →not-fails, →is, →isnt}
 use Rattle.verdict.proofs.snapshots.both_write.Statement.{statement}
 use Rattle.verdict.proofs.snapshots.both_write.Tie as tie
 

@@ -6,13 +6,13 @@ use Prim.Native.Nat.{ℕ, _-_, _/_, _≤_}
 use native.Mathlib.Omega.{arith}
 use borrow.Author.Needs.{needs}
 use lib.ListN.{length, getD}
-use Rattle.graph.specs.Tests.{_is_, _and_, fails, some}
+use Rattle.words.specs.Tests.{_is_, _and_, fails, some}
 use Rattle.verdict.specs.Limits.{transactions}
 use Rattle.verdict.specs.Log.{steps, kind, tx, begins, commits}
 use Rattle.verdict.specs.Refusal.{taken, log-refusal}
 use Rattle.verdict.specs.Snapshot.{clash, wrong-commit}
 use Rattle.verdict.specs.Walk.{FirstSteps}
-use Rattle.graph.proofs.Truth.{and→, none→, →none, none-next}
+use Rattle.words.proofs.Truth.{and→, none→, →none, none-next}
 use Rattle.verdict.proofs.WellFormed.{well-formed}
 use Rattle.verdict.proofs.SnapshotLaws.{no-commit, shared-object, no-shared-object, clash-found, no-clash}
 use Rattle.verdict.proofs.Marks.{marked-both}

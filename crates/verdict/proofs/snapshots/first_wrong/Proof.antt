@@ -3,11 +3,11 @@ use mathlib.Core.Bool.{false}
 use Prim.Native.Nat.{_-_, _/_, _≤_}
 use native.Mathlib.Omega.{arith}
 use lib.ListN.{length}
-use Rattle.graph.specs.Tests.{some}
+use Rattle.words.specs.Tests.{some}
 use Rattle.verdict.specs.Log.{steps}
 use Rattle.verdict.specs.Refusal.{taken, log-refusal}
 use Rattle.verdict.specs.Snapshot.{wrong-read}
-use Rattle.graph.proofs.Truth.{none→, lowest-none, lowest-at, none-next}
+use Rattle.words.proofs.Truth.{none→, lowest-none, lowest-at, none-next}
 use Rattle.verdict.proofs.snapshots.first_wrong.Statement.{statement}
 use Rattle.verdict.proofs.snapshots.first_wrong.Tie as tie
 

@@ -3,11 +3,11 @@ use mathlib.Core.List.{List}
 use Prim.Native.Nat.{ℕ, _≤_}
 use native.Mathlib.Omega.{arith}
 use borrow.Author.Needs.{needs}
-use Rattle.graph.specs.Tests.{_is_, fails}
+use Rattle.words.specs.Tests.{_is_, fails}
 use Rattle.verdict.specs.Log.{steps, kind, tx, obj, src, begins, commits, committed, begin-step}
 use Rattle.verdict.specs.Snapshot.{snapshot-step, last-committed}
 use Rattle.verdict.specs.Walk.{does}
-use Rattle.graph.proofs.Truth.{not-fails, lowest-bound}
+use Rattle.words.proofs.Truth.{not-fails, lowest-bound}
 use borrow.Author.Tests.{not-true, not-false}
 use Rattle.verdict.proofs.SnapshotLaws.{not-wrong, names-another}
 use Rattle.verdict.proofs.Judged.{other-kind, own-source, reader-fails, judged-read}

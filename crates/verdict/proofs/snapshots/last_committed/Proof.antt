@@ -7,7 +7,7 @@ use Rattle.verdict.specs.Limits.{transactions}
 use Rattle.verdict.specs.Log.{steps, kind, tx, commits-writer}
 use Rattle.verdict.specs.Refusal.{taken, log-refusal}
 use Rattle.verdict.specs.Snapshot.{last-committed}
-use Rattle.graph.proofs.Truth.{→and, and-no-left, and-no-right, →is, →isnt}
+use Rattle.words.proofs.Truth.{→and, and-no-left, and-no-right, →is, →isnt}
 use Rattle.verdict.proofs.WellFormed.{well-formed}
 use Rattle.verdict.proofs.SnapshotLaws.{last-none, found-back, further-back}
 use Rattle.verdict.proofs.Marks.{marked-yes, marked-no}

@@ -4,7 +4,7 @@ use Prim.Native.Nat.{ℕ, suc, _≤_}
 use native.Mathlib.Numerals.{add-one}
 use Rattle.verdict.specs.Log.{steps, commits, commit-step}
 use Rattle.verdict.specs.Walk.{does}
-use Rattle.graph.proofs.Truth.{lowest-bound}
+use Rattle.words.proofs.Truth.{lowest-bound}
 use Rattle.verdict.proofs.Versions.{after-zero, after-other}
 use borrow.Author.Needs.{needs}
 use native.Mathlib.Omega.{arith}

@@ -2,7 +2,7 @@ use mathlib.Core.Path.{_≡_, refl, sym, _∙_}
 use Prim.Native.Nat.{_-_, _/_, _≤_}
 use native.Mathlib.Numerals.{add-one}
 use lib.ListN.{length}
-use Rattle.graph.specs.Tests.{some}
+use Rattle.words.specs.Tests.{some}
 use Rattle.verdict.specs.Log.{steps}
 use Rattle.verdict.specs.Walk.{no-edge, versions-until, Matrix}
 use Rattle.verdict.proofs.Matrices.{same-edges}

@@ -1,5 +1,5 @@
 use mathlib.Core.Path.{_≡_, sym, ap, _∙_}
-use Rattle.graph.specs.Lists.{zeros}
+use Rattle.words.specs.Lists.{zeros}
 use Rattle.verdict.proofs.Matrices.{no-edges}
 use mathlib.Core.Logic.{⊎-elim}
 use mathlib.Core.List.{List}

@@ -4,11 +4,11 @@ use mathlib.Core.Logic.{⊎-elim}
 use mathlib.Core.List.{List}
 use Prim.Native.Nat.{ℕ, _-_, _/_, _≤_}
 use lib.ListN.{length}
-use Rattle.graph.specs.Tests.{some}
+use Rattle.words.specs.Tests.{some}
 use Rattle.verdict.specs.Limits.{transactions}
 use Rattle.verdict.specs.Log.{steps, kind, tx, writer}
 use Rattle.verdict.specs.Version.{after}
-use Rattle.graph.proofs.Truth.{none-next}
+use Rattle.words.proofs.Truth.{none-next}
 use Rattle.verdict.proofs.WellFormed.{well-formed}
 use Rattle.verdict.proofs.Marks.{marked-yes, marked-no}
 use Rattle.verdict.proofs.Versions.{candidate}

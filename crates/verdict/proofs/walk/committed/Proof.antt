@@ -4,9 +4,9 @@ use Prim.Native.Nat.{suc, _-_, _/_, _≤_}
 use native.Mathlib.Omega.{arith}
 use native.Mathlib.Numerals.{add-one}
 use lib.ListN.{length}
-use Rattle.graph.specs.Tests.{_is_, count}
+use Rattle.words.specs.Tests.{_is_, count}
 use Rattle.verdict.specs.Log.{steps, kind, committed-count}
-use Rattle.graph.proofs.Truth.{→is, →isnt, count-yes, count-no}
+use Rattle.words.proofs.Truth.{→is, →isnt, count-yes, count-no}
 use Rattle.verdict.proofs.walk.committed.Statement.{statement}
 use Rattle.verdict.proofs.walk.committed.Tie as tie
 

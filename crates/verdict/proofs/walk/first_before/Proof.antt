@@ -4,10 +4,10 @@ use mathlib.Core.Logic.{⊎-elim}
 use Prim.Native.Nat.{_*_, _-_, _≤_}
 use native.Mathlib.Omega.{arith}
 use lib.ListN.{length}
-use Rattle.graph.specs.Tests.{some}
+use Rattle.words.specs.Tests.{some}
 use Rattle.verdict.specs.Log.{steps, kind, tx}
 use Rattle.verdict.specs.Walk.{does}
-use Rattle.graph.proofs.Truth.{→and, and-no-left, and-no-right, →is, →isnt, none→, lowest-none, lowest-at, none-next}
+use Rattle.words.proofs.Truth.{→and, and-no-left, and-no-right, →is, →isnt, none→, lowest-none, lowest-at, none-next}
 use Rattle.verdict.proofs.walk.first_before.Statement.{statement}
 use Rattle.verdict.proofs.walk.first_before.Tie as tie
 

@@ -3,7 +3,7 @@ use Prim.Native.Nat.{ℕ, _-_, _≤_, _<_}
 use native.Mathlib.Omega.{arith}
 use borrow.Author.Needs.{needs}
 use lib.ListN.{length, getD, length-set}
-use Rattle.graph.specs.Tests.{lowest}
+use Rattle.words.specs.Tests.{lowest}
 use Rattle.verdict.specs.Log.{steps}
 use Rattle.verdict.specs.Walk.{does}
 use Rattle.verdict.proofs.Marks.{table-more}

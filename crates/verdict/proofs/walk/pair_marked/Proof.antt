@@ -1,5 +1,5 @@
-use Rattle.graph.specs.Tests.{_is_}
-use Rattle.graph.proofs.Truth.{not-fails}
+use Rattle.words.specs.Tests.{_is_}
+use Rattle.words.proofs.Truth.{not-fails}
 use borrow.Author.Needs.{needs}
 use Rattle.verdict.proofs.walk.pair_marked.Statement.{statement}
 use Rattle.verdict.proofs.walk.pair_marked.Tie as tie

@@ -4,9 +4,9 @@ use mathlib.Core.Logic.{⊎-elim}
 use Prim.Native.Nat.{_-_, _*_, _≤_}
 use native.Mathlib.Omega.{arith}
 use lib.ListN.{length}
-use Rattle.graph.specs.Tests.{_upto_, _and_, some}
+use Rattle.words.specs.Tests.{_upto_, _and_, some}
 use Rattle.verdict.specs.Log.{kind, tx, obj, writes}
-use Rattle.graph.proofs.Truth.{→and, and-no-left, and-no-right, →is, →isnt, →upto, →not-upto, →some, →none, none-next}
+use Rattle.words.proofs.Truth.{→and, and-no-left, and-no-right, →is, →isnt, →upto, →not-upto, →some, →none, none-next}
 use Rattle.verdict.proofs.walk.writes_within.Statement.{statement}
 use Rattle.verdict.proofs.walk.writes_within.Tie as tie
 

@@ -5,11 +5,11 @@ use Prim.Native.Nat.{ℕ, _-_, _/_, _≤_, _<_}
 use native.Mathlib.Omega.{arith}
 use borrow.Author.Needs.{needs}
 use lib.ListN.{length, length-set}
-use Rattle.graph.specs.Tests.{some}
+use Rattle.words.specs.Tests.{some}
 use Rattle.verdict.specs.Limits.{objects}
 use Rattle.verdict.specs.Log.{steps, kind, tx, obj, writes, writer}
 use Rattle.verdict.specs.Refusal.{taken, log-refusal}
-use Rattle.graph.proofs.Truth.{→and, and-no-left, and-no-right, →is, →isnt}
+use Rattle.words.proofs.Truth.{→and, and-no-left, and-no-right, →is, →isnt}
 use Rattle.verdict.proofs.WellFormed.{well-formed}
 use Rattle.verdict.proofs.Marks.{unmarked, mark-step, mark-skip}
 use Rattle.verdict.specs.Walk.{Marked}

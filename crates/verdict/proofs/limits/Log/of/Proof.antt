@@ -1,6 +1,6 @@
 use mathlib.Core.Path.{sym}
 use native.Mathlib.Omega.{arith}
-use Rattle.graph.proofs.Truth.{→upto, →not-upto, if-true, if-false}
+use Rattle.words.proofs.Truth.{→upto, →not-upto, if-true, if-false}
 use Rattle.verdict.specs.Limits.{make-log}
 use Rattle.verdict.proofs.limits.Log.of.Statement.{statement}
 use Rattle.verdict.proofs.limits.Log.of.Tie as tie

@@ -1,6 +1,6 @@
 use mathlib.Core.Path.{sym}
 use native.Mathlib.Omega.{arith}
-use Rattle.graph.proofs.Truth.{→below, →not-below, if-true, if-false}
+use Rattle.words.proofs.Truth.{→below, →not-below, if-true, if-false}
 use Rattle.verdict.specs.Limits.{make-object}
 use Rattle.verdict.proofs.limits.Object.of.Statement.{statement}
 use Rattle.verdict.proofs.limits.Object.of.Tie as tie

@@ -1,6 +1,6 @@
 use mathlib.Core.Path.{sym}
 use native.Mathlib.Omega.{arith}
-use Rattle.graph.proofs.Truth.{→and, and-no-left, and-no-right, →upto, →not-upto, if-true, if-false}
+use Rattle.words.proofs.Truth.{→and, and-no-left, and-no-right, →upto, →not-upto, if-true, if-false}
 use Rattle.verdict.specs.Limits.{make-transaction}
 use Rattle.verdict.proofs.limits.Transaction.of.Statement.{statement}
 use Rattle.verdict.proofs.limits.Transaction.of.Tie as tie

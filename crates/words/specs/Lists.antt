@@ -3,7 +3,7 @@ use mathlib.Core.Bool.{Bool, true, false}
 use mathlib.Core.List.{List, [], _∷_, _++_}
 use Prim.Native.Nat.{ℕ, _-_}
 use lib.ListN.{length, replicate}
-use Rattle.graph.specs.Tests.{_is_, _and_, _or_, fails}
+use Rattle.words.specs.Tests.{_is_, _and_, _or_, fails}
 
 -- a is a member of w
 unfoldable pub member : ℕ → List ℕ → Bool

@@ -3,7 +3,7 @@ use mathlib.Core.Path.{_≡_}
 use mathlib.Core.Bool.{Bool, true}
 use mathlib.Core.List.{List, [], _∷_}
 use Prim.Native.Nat.{ℕ}
-use Rattle.graph.specs.First.{dictionary}
+use Rattle.words.specs.First.{dictionary}
 
 -- w is one of ws
 pub data Among (w : List ℕ) : List (List ℕ) → Type 0 where

@@ -4,9 +4,9 @@ use mathlib.Core.Bool.{Bool, true, false, false≢true}
 use mathlib.Core.Logic.{_⊎_, inl, inr, ⊎-elim}
 use mathlib.Core.List.{List, [], _∷_, _++_}
 use Prim.Native.Nat.{ℕ}
-use Rattle.graph.specs.Tests.{_is_, _and_}
-use Rattle.graph.specs.Lists.{member, all, distinct, before}
-use Rattle.graph.proofs.Truth.{not-both, and→, →and, or→, →or-left, →or-right, fails→, is→, →is}
+use Rattle.words.specs.Tests.{_is_, _and_}
+use Rattle.words.specs.Lists.{member, all, distinct, before}
+use Rattle.words.proofs.Truth.{not-both, and→, →and, or→, →or-left, →or-right, fails→, is→, →is}
 
 pub member-head : (a : ℕ) (w : List ℕ) → member a (a ∷ w) ≡ true
 unfolding member

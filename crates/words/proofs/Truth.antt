@@ -7,7 +7,7 @@ use native.Mathlib.Omega.{arith}
 use native.Mathlib.Nat.{not-suc-le-zero}
 use native.Mathlib.Numerals.{add-one}
 use borrow.Author.Tests.{ltb-true, ltb-false, leb-true, leb-false, eqb-true, eqb-false, lt-ltb, le-ltb, le-leb, lt-leb, eq-eqb, ne-eqb}
-use Rattle.graph.specs.Tests.{_is_, _below_, _upto_, _and_, _or_, _implies_, fails, if_then_else_, some, every, count, lowest, highest}
+use Rattle.words.specs.Tests.{_is_, _below_, _upto_, _and_, _or_, _implies_, fails, if_then_else_, some, every, count, lowest, highest}
 
 -- a test passes or fails
 pub decide : (b : Bool) → (b ≡ true) ⊎ (b ≡ false)
@@ -217,17 +217,6 @@ pub some-same : (n : ℕ) (p q : ℕ → Bool) → ((i : ℕ) → i < n → p i 
 unfolding some
 some-same zero p q f = refl
 some-same (suc n) p q f = rw (some-same n p q (λ (i : ℕ) (h : i < n). f i (omega arith)), f n (omega arith)) refl
-
--- .. one test or another
-pub some-either : (n : ℕ) (p q : ℕ → Bool) → some n p ≡ true → some n (λ i. p i or q i) ≡ true
-some-either n p q h = let r = some→ h in →some _ (r .0) (r .1) (→or-left _ (r .2))
-
-pub some-other : (n : ℕ) (p q : ℕ → Bool) → some n p ≡ false → some n (λ i. p i or q i) ≡ some n q
-some-other n p q h = go (decide (some n q))
-  where
-    go : (some n q ≡ true) ⊎ (some n q ≡ false) → some n (λ i. p i or q i) ≡ some n q
-    go (inl k) = let r = some→ k in →some _ (r .0) (r .1) (→or-right _ (r .2)) ∙ sym k
-    go (inr k) = →none _ (λ (i : ℕ) (l : i < n). or-no (p i) (none→ q k i l) ∙ none→ p h i l) ∙ sym k
 
 pub every→ : {n : ℕ} (p : ℕ → Bool) → every n p ≡ true → (i : ℕ) → i < n → p i ≡ true
 unfolding every

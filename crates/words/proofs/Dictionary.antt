@@ -6,9 +6,9 @@ use mathlib.Core.List.{List, [], _∷_}
 use Prim.Native.Nat.{ℕ, _≤_, _<_}
 use native.Mathlib.Omega.{arith}
 use lib.ListN.{length}
-use Rattle.graph.specs.Tests.{_is_, _below_, _and_, _or_}
-use Rattle.graph.specs.First.{dictionary, shorter, First}
-use Rattle.graph.proofs.Truth.{decide, not-both, to-false, and→, →and, or→, →or-left, →or-right, is→, →is, below→, →below, not-below→}
+use Rattle.words.specs.Tests.{_is_, _below_, _and_, _or_}
+use Rattle.words.specs.First.{dictionary, shorter, First}
+use Rattle.words.proofs.Truth.{decide, not-both, to-false, and→, →and, or→, →or-left, →or-right, is→, →is, below→, →below, not-below→}
 
 -- two lists neither of which comes before the other are one
 pub dictionary-same : (v w : List ℕ) → dictionary v w ≡ false → dictionary w v ≡ false → v ≡ w

@@ -5,7 +5,7 @@ use mathlib.Core.List.{List, [], _∷_}
 use mathlib.Core.Option.{Option, none, some as just}
 use Prim.Native.Nat.{ℕ}
 use lib.ListN.{length}
-use Rattle.graph.specs.Tests.{_is_, _below_, _and_, _or_}
+use Rattle.words.specs.Tests.{_is_, _below_, _and_, _or_}
 
 -- v comes before w in a dictionary of numbers; a list comes before any longer one that begins with it
 unfoldable pub dictionary : List ℕ → List ℕ → Bool

@@ -7,13 +7,13 @@ use Prim.Native.Nat.{ℕ, zero, suc, _<_}
 use native.Mathlib.Nat.{not-suc-le-zero}
 use native.Mathlib.Omega.{arith}
 use lib.ListN.{length}
-use Rattle.graph.specs.Tests.{_below_, _and_, if_then_else_}
-use Rattle.graph.specs.Lists.{member, all}
-use Rattle.graph.specs.First.{dictionary, shorter, First, Never, later}
-use Rattle.graph.specs.Listed.{Among, here, further, Rises, rises-none, rises-more, Listed}
-use Rattle.graph.proofs.Truth.{decide, not-both, to-false, and→, →and, →or-left, →or-right, →is, below→, →below, not-below→, if-true, if-false}
-use Rattle.graph.proofs.Dictionary.{dictionary-same, dictionary-asym, first-one}
-use Rattle.graph.proofs.Places.{member→, all→, member-head, member-tail}
+use Rattle.words.specs.Tests.{_below_, _and_, if_then_else_}
+use Rattle.words.specs.Lists.{member, all}
+use Rattle.words.specs.First.{dictionary, shorter, First, Never, later}
+use Rattle.words.specs.Listed.{Among, here, further, Rises, rises-none, rises-more, Listed}
+use Rattle.words.proofs.Truth.{decide, not-both, to-false, and→, →and, →or-left, →or-right, →is, below→, →below, not-below→, if-true, if-false}
+use Rattle.words.proofs.Dictionary.{dictionary-same, dictionary-asym, first-one}
+use Rattle.words.proofs.Places.{member→, all→, member-head, member-tail}
 
 -- the numbers below n that pass, ascending, and then the list l
 unfoldable pub ascending : ℕ → (ℕ → Bool) → List ℕ → List ℕ

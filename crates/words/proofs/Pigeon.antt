@@ -6,11 +6,11 @@ use mathlib.Core.List.{List, [], _∷_}
 use Prim.Native.Nat.{ℕ, zero, suc, _+_, _≤_, _<_}
 use native.Mathlib.Omega.{arith}
 use lib.ListN.{length}
-use Rattle.graph.specs.Tests.{_is_, _below_, if_then_else_, count}
-use Rattle.graph.specs.Lists.{member, distinct}
-use Rattle.graph.proofs.Truth.{decide, not-both, to-false, and→, →and, →fails, is→, isnt→, below→, →below, not-below→, if-true, if-false}
-use Rattle.graph.proofs.Places.{member→, all→, →all, member-head, member-tail, distinct→}
-use Rattle.graph.proofs.Search.{rising, ascending}
+use Rattle.words.specs.Tests.{_is_, _below_, if_then_else_, count}
+use Rattle.words.specs.Lists.{member, distinct}
+use Rattle.words.proofs.Truth.{decide, not-both, to-false, and→, →and, →fails, is→, isnt→, below→, →below, not-below→, if-true, if-false}
+use Rattle.words.proofs.Places.{member→, all→, →all, member-head, member-tail, distinct→}
+use Rattle.words.proofs.Search.{rising, ascending}
 
 without : ℕ → List ℕ → List ℕ
 without a [] = []

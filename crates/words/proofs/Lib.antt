@@ -1,0 +1,6 @@
+-- Laws about these words.
+pub mod Truth
+pub mod Places
+pub mod Dictionary
+pub mod Search
+pub mod Pigeon
