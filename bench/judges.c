@@ -1,3 +1,4 @@
+/* The calls of ours and of the peer, behind one face. */
 #include "judges.h"
 
 #include <string.h>

@@ -1,3 +1,4 @@
+/* Reads what the second program has said of each text. */
 #include "expected.h"
 
 #include <stdio.h>

@@ -1,3 +1,4 @@
+/* The lent buffers, and each call over them compared with what is due. */
 #include "lent.h"
 
 #include <stdio.h>

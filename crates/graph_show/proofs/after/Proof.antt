@@ -1,3 +1,4 @@
+-- `after` is safe and ends.
 use borrow.Author.Tests.{not-false}
 use mathlib.Core.Path.{sym, _∙_}
 use borrow.Author.Needs.{needs}

@@ -1,3 +1,4 @@
+-- `later` is safe and ends.
 use lib.Seq.{length-take-le}
 use lib.ListN.{length}
 use native.Mathlib.Omega.{arith}

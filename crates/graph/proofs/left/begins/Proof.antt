@@ -1,3 +1,4 @@
+-- `begins` meets its contract.
 use mathlib.Core.Path.{sym, ap, _∙_}
 use native.Mathlib.Omega.{arith}
 use Rattle.words.specs.Tests.{fails}

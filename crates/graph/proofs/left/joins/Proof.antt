@@ -1,3 +1,4 @@
+-- `joins` meets its contract.
 use Rattle.words.specs.Tests.{_is_}
 use Rattle.graph.specs.Matrix.{joined}
 use mathlib.Core.Path.{sym, _∙_}

@@ -1,3 +1,4 @@
+-- `some_left` meets its contract.
 use mathlib.Core.Path.{_≡_, refl, sym}
 use mathlib.Core.Bool.{false}
 use Prim.Native.Nat.{_≤_, _-_}

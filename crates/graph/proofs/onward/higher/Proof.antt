@@ -1,3 +1,4 @@
+-- `higher` meets its contract.
 use mathlib.Core.Path.{_≡_}
 use Prim.Native.Nat.{suc, _≤_}
 use native.Mathlib.Omega.{arith}

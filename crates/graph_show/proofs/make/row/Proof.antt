@@ -1,3 +1,4 @@
+-- `row` is safe and ends.
 use Prim.Native.Nat.{_≤_, _-_}
 use borrow.Author.Needs.{needs}
 use Rattle.graph_show.proofs.make.row.Statement.{statement}

@@ -1,3 +1,4 @@
+-- `clean` meets its contract.
 use Rattle.verdict.proofs.WellFormed.{else-try→}
 use mathlib.Core.Path.{refl, sym, _∙_}
 use borrow.Author.Needs.{needs}

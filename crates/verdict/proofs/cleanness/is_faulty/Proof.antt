@@ -1,3 +1,4 @@
+-- `is_faulty` meets its contract.
 use mathlib.Core.Path.{_≡_, sym, _∙_}
 use mathlib.Core.Logic.{inl}
 use mathlib.Core.List.{List}

@@ -1,3 +1,4 @@
+-- `last_write` meets its contract.
 use mathlib.Core.Path.{refl, _∙_}
 use borrow.Author.Needs.{needs}
 use Rattle.verdict.proofs.cleanness.last_write.Statement.{statement}

@@ -1,3 +1,4 @@
+-- `conflict` meets its contract.
 use Rattle.verdict.specs.Limits.{transactions}
 use Rattle.verdict.specs.Refusal.{work-refusal, witness-refusal, log-refusal}
 use Rattle.verdict.specs.Conflict.{Conflict}

@@ -1,3 +1,4 @@
+-- `draw` meets its contract.
 use mathlib.Core.Path.{_≡_, refl, sym, _∙_}
 use Prim.Native.Nat.{_-_, _/_, _≤_}
 use native.Mathlib.Numerals.{add-one}

@@ -1,3 +1,4 @@
+-- `judge_conflict` meets its contract.
 use mathlib.Core.Path.{ap, _∙_}
 use Rattle.words.specs.Lists.{zeros}
 use Rattle.verdict.proofs.Matrices.{no-edges}

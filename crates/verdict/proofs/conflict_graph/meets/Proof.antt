@@ -1,3 +1,4 @@
+-- `meets` meets its contract.
 use mathlib.Core.Path.{sym, _∙_}
 use Rattle.words.specs.Tests.{_is_}
 use Rattle.verdict.specs.Log.{kind, obj}

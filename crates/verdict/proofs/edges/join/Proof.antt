@@ -1,3 +1,4 @@
+-- `join` meets its contract.
 use mathlib.Core.Path.{sym}
 use Rattle.verdict.proofs.Matrices.{dropped, added}
 use borrow.Author.Needs.{needs}

@@ -1,3 +1,4 @@
+-- `show` meets its contract.
 use mathlib.Core.Path.{sym, ap, _∙_}
 use Rattle.words.specs.Lists.{zeros}
 use Rattle.verdict.proofs.Matrices.{retold, sorted}

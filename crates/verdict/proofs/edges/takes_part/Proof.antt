@@ -1,3 +1,4 @@
+-- `takes_part` meets its contract.
 use Rattle.words.specs.Tests.{_is_}
 use Rattle.verdict.proofs.Matrices.{mark-tells}
 use borrow.Author.Needs.{needs}

@@ -1,3 +1,4 @@
+-- `admit_search` meets its contract.
 use mathlib.Core.Path.{sym, ap, _∙_}
 use borrow.Author.Needs.{needs}
 use Rattle.verdict.specs.Refusal.{search-refusal}

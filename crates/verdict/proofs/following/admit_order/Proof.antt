@@ -1,3 +1,4 @@
+-- `admit_order` meets its contract.
 use mathlib.Core.Path.{sym, ap, _∙_}
 use borrow.Author.Needs.{needs}
 use Rattle.verdict.specs.Said.{said-refusal}

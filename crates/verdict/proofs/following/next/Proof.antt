@@ -1,3 +1,4 @@
+-- `next` meets its contract.
 use mathlib.Core.Path.{refl, sym, _∙_}
 use borrow.Author.Needs.{needs}
 use Rattle.verdict.specs.Refusal.{work-refusal, witness-refusal}

@@ -1,3 +1,4 @@
+-- `admit` meets its contract.
 use mathlib.Core.Path.{sym, ap, _∙_}
 use native.Mathlib.Omega.{arith}
 use Rattle.verdict.specs.Said.{said-refusal}

@@ -1,3 +1,4 @@
+-- `admit_witness` meets its contract.
 use mathlib.Core.Path.{sym, ap, _∙_}
 use Rattle.verdict.specs.Said.{said-refusal}
 use Rattle.words.proofs.Truth.{→fails, →not-fails, →is, →isnt}

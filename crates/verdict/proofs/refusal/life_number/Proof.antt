@@ -1,3 +1,4 @@
+-- `life_number` meets its contract.
 use mathlib.Core.Path.{sym}
 use Rattle.words.specs.Tests.{_is_, fails}
 use Rattle.verdict.specs.Log.{kind, tx}

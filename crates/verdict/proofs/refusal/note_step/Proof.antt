@@ -1,3 +1,4 @@
+-- `note_step` meets its contract.
 use mathlib.Core.Logic.{inl, inr}
 use Prim.Native.Nat.{_≤_, _<_}
 use native.Mathlib.Omega.{arith}

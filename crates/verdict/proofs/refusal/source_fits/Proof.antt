@@ -1,3 +1,4 @@
+-- `source_fits` meets its contract.
 use mathlib.Core.Path.{sym}
 use Rattle.words.specs.Tests.{_is_, _upto_}
 use Rattle.words.proofs.Truth.{if-true, if-false}

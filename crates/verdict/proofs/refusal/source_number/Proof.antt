@@ -1,3 +1,4 @@
+-- `source_number` meets its contract.
 use mathlib.Core.Path.{sym}
 use mathlib.Core.Logic.{inl, inr, ⊎-elim}
 use Rattle.words.specs.Tests.{_is_, fails}

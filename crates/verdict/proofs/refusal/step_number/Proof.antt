@@ -1,3 +1,4 @@
+-- `step_number` meets its contract.
 use mathlib.Core.Path.{sym, _∙_}
 use Rattle.verdict.specs.Log.{kind, tx, obj, src}
 use Rattle.verdict.specs.Refusal.{step-refusal}

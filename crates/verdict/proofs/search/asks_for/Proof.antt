@@ -1,3 +1,4 @@
+-- `asks_for` meets its contract.
 use mathlib.Core.Path.{sym, _∙_}
 use borrow.Author.Needs.{needs}
 use Rattle.verdict.specs.Log.{steps, kind, tx, obj, src, commits, committed}

@@ -1,3 +1,4 @@
+-- `find_order` meets its contract.
 use mathlib.Core.Path.{_≡_}
 use mathlib.Core.List.{List}
 use Prim.Native.Nat.{ℕ, _+_}

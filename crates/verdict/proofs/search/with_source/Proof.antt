@@ -1,3 +1,4 @@
+-- `with_source` meets its contract.
 use mathlib.Core.Path.{_≡_, sym, _∙_}
 use Prim.Native.Nat.{suc}
 use native.Mathlib.Omega.{arith}

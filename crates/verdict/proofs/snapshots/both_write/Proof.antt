@@ -1,3 +1,4 @@
+-- `both_write` meets its contract.
 use mathlib.Core.Path.{sym}
 use borrow.Author.Needs.{needs}
 use Rattle.words.proofs.Truth.{→and, and-no-left, and-no-right, →fails, →not-fails, →is, →isnt}

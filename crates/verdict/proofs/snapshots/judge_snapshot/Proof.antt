@@ -1,3 +1,4 @@
+-- `judge_snapshot` meets its contract.
 use mathlib.Core.Path.{sym, ap}
 use borrow.Author.Needs.{needs}
 use Rattle.verdict.specs.Log.{steps}

@@ -1,3 +1,4 @@
+-- `partner_marks` meets its contract.
 use borrow.Author.Needs.{needs}
 use Rattle.verdict.proofs.SnapshotLaws.{not-yet, long-before, long-after, overlapping, no-partner, a-partner}
 use Rattle.verdict.proofs.snapshots.partner_marks.Statement.{statement}

@@ -1,3 +1,4 @@
+-- `snapshot` meets its contract.
 use mathlib.Core.Path.{refl, sym, _∙_}
 use native.Mathlib.Omega.{arith}
 use borrow.Author.Needs.{needs}

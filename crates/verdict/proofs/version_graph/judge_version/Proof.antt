@@ -1,3 +1,4 @@
+-- `judge_version` meets its contract.
 use mathlib.Core.Path.{_≡_, sym, ap, _∙_}
 use Rattle.words.specs.Lists.{zeros}
 use Rattle.verdict.proofs.Matrices.{no-edges}

@@ -1,3 +1,4 @@
+-- `mark_read` meets its contract.
 use mathlib.Core.Path.{refl, _∙_}
 use Rattle.verdict.specs.Log.{steps, tx, obj, src}
 use Rattle.verdict.proofs.WellFormed.{well-formed}

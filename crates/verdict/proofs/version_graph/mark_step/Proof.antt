@@ -1,3 +1,4 @@
+-- `mark_step` meets its contract.
 use mathlib.Core.Path.{sym, _∙_}
 use borrow.Author.Tests.{not-true, not-false}
 use Rattle.verdict.specs.Log.{steps, kind, tx}

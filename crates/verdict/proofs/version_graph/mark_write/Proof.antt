@@ -1,3 +1,4 @@
+-- `mark_write` meets its contract.
 use mathlib.Core.Path.{ap, _∙_}
 use Rattle.verdict.specs.Log.{steps, tx, obj}
 use Rattle.verdict.specs.Walk.{with-edge}

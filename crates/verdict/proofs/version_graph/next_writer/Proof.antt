@@ -1,3 +1,4 @@
+-- `next_writer` meets its contract.
 use mathlib.Core.Path.{_≡_, refl}
 use mathlib.Core.Bool.{true, false}
 use mathlib.Core.Logic.{⊎-elim}

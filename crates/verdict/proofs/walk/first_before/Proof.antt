@@ -1,3 +1,4 @@
+-- `first_before` meets its contract.
 use mathlib.Core.Path.{_≡_, refl, sym}
 use mathlib.Core.Bool.{false}
 use mathlib.Core.Logic.{⊎-elim}

@@ -1,3 +1,4 @@
+-- `pair_marked` meets its contract.
 use Rattle.words.specs.Tests.{_is_}
 use Rattle.words.proofs.Truth.{not-fails}
 use borrow.Author.Needs.{needs}

@@ -1,3 +1,4 @@
+-- `writes_within` meets its contract.
 use mathlib.Core.Path.{_≡_, sym}
 use mathlib.Core.Bool.{false}
 use mathlib.Core.Logic.{⊎-elim}

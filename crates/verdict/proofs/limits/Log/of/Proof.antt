@@ -1,3 +1,4 @@
+-- `of` meets its contract.
 use mathlib.Core.Path.{sym}
 use native.Mathlib.Omega.{arith}
 use Rattle.words.proofs.Truth.{→upto, →not-upto, if-true, if-false}
