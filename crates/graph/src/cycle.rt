@@ -170,7 +170,7 @@ fn trace(out: &mut [u16], m: &[u8], part: &[u8; 128], dist: &[usize; 128], s: us
 }
 
 // Lays down the first shortest cycle, where there is any. How many members it has.
-pub fn cycle(out: &mut [u16], m: &[u8], part: &[u8; 128]) -> usize
+pub(crate) fn cycle(out: &mut [u16], m: &[u8], part: &[u8; 128]) -> usize
     requires { ⌜ (length (now out) ≡ 128) × (length (now m) ≡ 16384) × ((c : List ℕ) × (is-cycle (joined 128 (now m) (now part)) c ≡ true)) ⌝ }
     ensures { λ r. ⌜ Cycled (now (m .entry)) (now (part .entry)) (now (out .entry)) r (now (out .exit)) ⌝ }
 {

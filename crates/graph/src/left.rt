@@ -7,7 +7,7 @@ ghost use Rattle.graph.specs.Matrix.{takes-part, joined};
 ghost use Rattle.graph.specs.Steps.{may-begin};
 
 // Whether an edge leads from a to b.
-pub fn joins(m: &[u8], left: &[u8; 128], a: usize, b: usize) -> bool
+pub(crate) fn joins(m: &[u8], left: &[u8; 128], a: usize, b: usize) -> bool
     requires { ⌜ (length (now m) ≡ 16384) × (1 ≤ a) × (a ≤ 128) × (1 ≤ b) × (b ≤ 128) ⌝ }
     ensures { λ r. ⌜ r ≡ joined 128 (now (m .entry)) (now (left .entry)) a b ⌝ }
 {
@@ -39,7 +39,7 @@ fn blocked(m: &[u8], left: &[u8; 128], b: usize) -> bool
 }
 
 // Whether an order of what is left may begin with v.
-pub fn begins(m: &[u8], left: &[u8; 128], v: usize) -> bool
+pub(crate) fn begins(m: &[u8], left: &[u8; 128], v: usize) -> bool
     requires { ⌜ length (now m) ≡ 16384 ⌝ }
     ensures { λ r. ⌜ r ≡ may-begin (now (m .entry)) (now (left .entry)) v ⌝ }
 {
@@ -56,7 +56,7 @@ pub fn begins(m: &[u8], left: &[u8; 128], v: usize) -> bool
 }
 
 // The lowest vertex from start on with which an order of what is left may begin, or 129 where there is none.
-pub fn lowest_beginning(m: &[u8], left: &[u8; 128], start: usize) -> usize
+pub(crate) fn lowest_beginning(m: &[u8], left: &[u8; 128], start: usize) -> usize
     requires { ⌜ (length (now m) ≡ 16384) × (start ≤ 129) ⌝ }
     ensures { λ r. ⌜ r ≡ lowest 129 (λ v. start upto v and may-begin (now (m .entry)) (now (left .entry)) v) ⌝ }
 {
@@ -71,7 +71,7 @@ pub fn lowest_beginning(m: &[u8], left: &[u8; 128], start: usize) -> usize
 }
 
 // Whether any vertex is left.
-pub fn some_left(left: &[u8; 128]) -> bool
+pub(crate) fn some_left(left: &[u8; 128]) -> bool
     ensures { λ r. ⌜ r ≡ some 129 (takes-part 128 (now (left .entry))) ⌝ }
 {
     let mut v: usize = 1;

@@ -32,7 +32,7 @@ fn higher(out: &mut [u16], m: &[u8], left: [u8; 128], i: usize, a: usize) -> usi
 
 // Lays down, from place i on, the first order of what is left that comes later than the given entries from there on. How many entries then
 // stand, or 0 where no order is later.
-pub fn follow(out: &mut [u16], m: &[u8], left: [u8; 128], given: &[u16], i: usize) -> usize
+pub(crate) fn follow(out: &mut [u16], m: &[u8], left: [u8; 128], given: &[u16], i: usize) -> usize
     requires { ⌜ (length (now out) ≡ 128) × (length (now m) ≡ 16384) × (length (now given) ≤ 128) × (i ≤ length (now given))
         × (matrix-order vertices (now m) left (drop i (now given)) ≡ true) ⌝ }
     ensures { λ r. ⌜ Followed (now (m .entry)) left (drop i (now (given .entry))) i (now (out .entry)) r (now (out .exit)) ⌝ }

@@ -35,7 +35,7 @@ pub fn keeps(m: &[u8], part: [u8; 128], given: &[u16]) -> bool
 }
 
 // Every entry 0.
-pub fn clear(out: &mut [u16])
+pub(crate) fn clear(out: &mut [u16])
     ensures { λ _. ⌜ now (out .exit) ≡ zeros (length (now (out .entry))) ⌝ }
 {
     let mut i: usize = 0;
@@ -46,7 +46,7 @@ pub fn clear(out: &mut [u16])
 }
 
 // Lays down, from place start on, the lowest vertex that may come next, again and again, until there is none.
-pub fn place(out: &mut [u16], m: &[u8], part: [u8; 128], start: usize) -> Placing
+pub(crate) fn place(out: &mut [u16], m: &[u8], part: [u8; 128], start: usize) -> Placing
     requires { ⌜ (length (now out) ≡ 128) × (length (now m) ≡ 16384) × (start + count 129 (takes-part 128 part) ≤ 128) ⌝ }
     ensures { λ r. ⌜ Places (now (m .entry)) part start (now (out .entry)) (r .count) (r .left) (now (out .exit)) ⌝ }
 {

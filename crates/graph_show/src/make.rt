@@ -58,7 +58,7 @@ fn byte(number: u64, state: u64, a: usize, b: usize) -> u8
 }
 
 // Which vertices take part: all, or in a drawn graph each by a draw.
-pub fn parts(number: u64) -> Marks {
+pub(crate) fn parts(number: u64) -> Marks {
     let mut part = [1u8; 128];
     let mut state = number;
     if 4 < number {
@@ -90,7 +90,7 @@ fn row(m: &mut [u8; 16384], number: u64, start: u64, a: usize) -> u64
 }
 
 // Writes the matrix.
-pub fn edges(m: &mut [u8; 16384], number: u64, start: u64) {
+pub(crate) fn edges(m: &mut [u8; 16384], number: u64, start: u64) {
     let mut state = start;
     let mut a = 1;
     while a <= 128 {

@@ -104,7 +104,7 @@ fn first_fault(log: &[u16]) -> usize
 }
 
 // The clean verdict of a well-formed log.
-pub fn judge_clean(log: &[u16]) -> CleanAnswer
+pub(crate) fn judge_clean(log: &[u16]) -> CleanAnswer
     requires { ⌜ log-refusal (now log) ≡ taken ⌝ }
     ensures { λ r. ⌜ r ≡ said-clean (cleanness (now (log .entry))) ⌝ }
 {

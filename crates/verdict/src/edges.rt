@@ -13,7 +13,7 @@ ghost use Rattle.verdict.specs.Refusal.{taken, log-refusal};
 ghost use Rattle.verdict.specs.Walk.{with-edge, Committed, Showing};
 
 // For each transaction, whether it committed.
-pub fn committed_ones(log: &[u16]) -> [u8; Transaction::COUNT]
+pub(crate) fn committed_ones(log: &[u16]) -> [u8; Transaction::COUNT]
     requires { ⌜ log-refusal (now log) ≡ taken ⌝ }
     ensures { λ r. ⌜ Committed (now (log .entry)) r ⌝ }
 {
@@ -31,7 +31,7 @@ pub fn committed_ones(log: &[u16]) -> [u8; Transaction::COUNT]
 }
 
 // Whether t committed, by the marks.
-pub fn takes_part(part: &[u8; Transaction::COUNT], t: u16) -> bool
+pub(crate) fn takes_part(part: &[u8; Transaction::COUNT], t: u16) -> bool
     requires { ⌜ (1 ≤ t) × (t ≤ transactions) ⌝ }
     ensures { λ r. ⌜ r ≡ takes-part transactions (now (part .entry)) t ⌝ }
 {
@@ -40,7 +40,7 @@ pub fn takes_part(part: &[u8; Transaction::COUNT], t: u16) -> bool
 }
 
 // An edge from a to b more. Edges at writer 0 and from a transaction to itself are dropped.
-pub fn join(work: &mut [u8], a: u16, b: u16)
+pub(crate) fn join(work: &mut [u8], a: u16, b: u16)
     requires { ⌜ (length (now work) ≡ work-bytes) × (a ≤ transactions) × (b ≤ transactions) ⌝ }
     ensures { λ _. ⌜ now (work .exit) ≡ with-edge (now (work .entry)) a b ⌝ }
 {
@@ -59,7 +59,7 @@ pub fn join(work: &mut [u8], a: u16, b: u16)
 }
 
 // All entries of the witness become 0.
-pub fn clear_witness(witness: &mut [u16])
+pub(crate) fn clear_witness(witness: &mut [u16])
     ensures { λ _. ⌜ now (witness .exit) ≡ zeros (length (now (witness .entry))) ⌝ }
 {
     for i in 0..witness.len() {
@@ -68,7 +68,7 @@ pub fn clear_witness(witness: &mut [u16])
 }
 
 // The first order or the first shortest cycle of the graph in the work area, which is then cleared.
-pub fn show(work: &mut [u8], witness: &mut [u16], part: [u8; Transaction::COUNT]) -> Answer
+pub(crate) fn show(work: &mut [u8], witness: &mut [u16], part: [u8; Transaction::COUNT]) -> Answer
     requires { ⌜ (length (now work) ≡ work-bytes) × (length (now witness) ≡ witness-entries) ⌝ }
     ensures { λ r. ⌜ Showing (takes-part transactions part) (joined transactions (now (work .entry)) part) r (now (work .exit)) (now (witness .exit)) ⌝ }
 {

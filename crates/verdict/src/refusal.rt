@@ -233,7 +233,7 @@ pub fn check(log: &[u16]) -> Checked
 }
 
 // 12 where the work area has a wrong length, and then what the check finds.
-pub fn admit(log: &[u16], work: usize) -> Checked
+pub(crate) fn admit(log: &[u16], work: usize) -> Checked
     ensures { λ r. ⌜ r ≡ said-refusal (12 at 0 when fails (work is work-bytes) else-try log-refusal (now (log .entry))) ⌝ }
 {
     if work != Log::WORK {
@@ -243,7 +243,7 @@ pub fn admit(log: &[u16], work: usize) -> Checked
 }
 
 // 12 where the work area or the witness has a wrong length, and then what the check finds.
-pub fn admit_witness(log: &[u16], work: usize, witness: usize) -> Checked
+pub(crate) fn admit_witness(log: &[u16], work: usize, witness: usize) -> Checked
     ensures { λ r. ⌜ r ≡ said-refusal (12 at 0 when fails (work is work-bytes) else-try 12 at 0 when fails (witness is witness-entries) else-try log-refusal (now (log .entry))) ⌝ }
 {
     if work != Log::WORK {

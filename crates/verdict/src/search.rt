@@ -70,7 +70,7 @@ fn needed(log: &[u16], t: u16, x: u16) -> u16
 }
 
 // The marks of the committed transactions.
-pub fn committed_marks(log: &[u16]) -> [u8; Transaction::TABLE]
+pub(crate) fn committed_marks(log: &[u16]) -> [u8; Transaction::TABLE]
     ensures { λ r. ⌜ Marked (suc transactions) (committed (now (log .entry))) r ⌝ }
 {
     let n = log.len() / 4;
@@ -256,7 +256,7 @@ fn put_order(witness: &mut [u16], order: [u16; Transaction::SEARCHED], n: usize)
 }
 
 // The first order that explains a clean, well-formed log loosely, written into an empty witness, or that there is none.
-pub fn find_order(log: &[u16], witness: &mut [u16]) -> Answer
+pub(crate) fn find_order(log: &[u16], witness: &mut [u16]) -> Answer
     requires { ⌜ (log-refusal (now log) ≡ taken) × (is-clean (now log) ≡ true) × (committed-count (now log) ≤ most-searched) × (now witness ≡ zeros witness-entries) ⌝ }
     ensures { λ r. ⌜ Found (now (log .entry)) r (now (witness .exit)) ⌝ }
 {

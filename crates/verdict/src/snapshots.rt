@@ -23,7 +23,7 @@ ghost use Rattle.verdict.specs.Call.{SnapshotCall};
 ghost use Rattle.verdict.specs.Walk.{FirstSteps, Marked, partner, FirstClash};
 
 // The last transaction to commit, before step b, among the committed writers of x; 0 if there is none.
-pub fn last_committed(log: &[u16], b: usize, x: u16) -> u16
+pub(crate) fn last_committed(log: &[u16], b: usize, x: u16) -> u16
     requires { ⌜ (log-refusal (now log) ≡ taken) × (4 * b ≤ length (now log)) ⌝ }
     ensures { λ r. ⌜ r ≡ last-committed (now (log .entry)) b x ⌝ }
 {

@@ -95,7 +95,7 @@ fn mark_step(log: &[u16], work: &mut [u8], part: &[u8; Transaction::COUNT], i: u
 }
 
 // Draws the edges of the version graph in a work area that has none.
-pub fn draw(log: &[u16], work: &mut [u8], part: &[u8; Transaction::COUNT])
+pub(crate) fn draw(log: &[u16], work: &mut [u8], part: &[u8; Transaction::COUNT])
     requires { ⌜ (log-refusal (now log) ≡ taken) × Committed (now log) (now part) × Matrix no-edge (now work) ⌝ }
     ensures { λ _. ⌜ Matrix (version-edge (now (log .entry))) (now (work .exit)) ⌝ }
 {

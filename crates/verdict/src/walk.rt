@@ -12,7 +12,7 @@ ghost use Rattle.verdict.specs.Refusal.{taken, log-refusal};
 ghost use Rattle.verdict.specs.Walk.{does, FirstSteps, Marked};
 
 // A number of a log as an index.
-pub fn index(x: u16) -> usize
+pub(crate) fn index(x: u16) -> usize
     ensures { λ r. ⌜ r ≡ x ⌝ }
 {
     x as usize
@@ -36,7 +36,7 @@ fn first_before(log: &[u16], n: usize, k: u16, t: u16) -> usize
 }
 
 // Whether t has a step of kind k among the first n steps.
-pub fn seen(log: &[u16], n: usize, k: u16, t: u16) -> bool
+pub(crate) fn seen(log: &[u16], n: usize, k: u16, t: u16) -> bool
     requires { ⌜ 4 * n ≤ length (now log) ⌝ }
     ensures { λ r. ⌜ r ≡ some n (does (now (log .entry)) k t) ⌝ }
 {
@@ -47,14 +47,14 @@ pub fn seen(log: &[u16], n: usize, k: u16, t: u16) -> bool
 }
 
 // The first step of kind k by t, or the number of steps where there is none.
-pub fn first_step(log: &[u16], k: u16, t: u16) -> usize
+pub(crate) fn first_step(log: &[u16], k: u16, t: u16) -> usize
     ensures { λ r. ⌜ r ≡ lowest (steps (now (log .entry))) (does (now (log .entry)) k t) ⌝ }
 {
     first_before(log, log.len() / 4, k, t)
 }
 
 // Whether t writes x in a step of these: `from` is the first of them, and `to` is behind the last.
-pub fn writes_within(log: &[u16], from: usize, to: usize, t: u16, x: u16) -> bool
+pub(crate) fn writes_within(log: &[u16], from: usize, to: usize, t: u16, x: u16) -> bool
     requires { ⌜ (from ≤ to) × (4 * to ≤ length (now log)) ⌝ }
     ensures { λ r. ⌜ r ≡ some to (λ j. from upto j and writes (now (log .entry)) t x j) ⌝ }
 {
@@ -73,7 +73,7 @@ pub fn writes_within(log: &[u16], from: usize, to: usize, t: u16, x: u16) -> boo
 }
 
 // Whether the mark of t is set.
-pub fn marked(marks: &[u8; Transaction::TABLE], t: u16) -> bool
+pub(crate) fn marked(marks: &[u8; Transaction::TABLE], t: u16) -> bool
     requires { ⌜ t ≤ transactions ⌝ }
     ensures { λ r. ⌜ r ≡ fails (getD (now (marks .entry)) t 0 is 0) ⌝ }
 {
@@ -82,7 +82,7 @@ pub fn marked(marks: &[u8; Transaction::TABLE], t: u16) -> bool
 }
 
 // Whether the mark of t and x is set.
-pub fn pair_marked(marks: &[u8; Transaction::PAIRS], t: u16, x: u16) -> bool
+pub(crate) fn pair_marked(marks: &[u8; Transaction::PAIRS], t: u16, x: u16) -> bool
     requires { ⌜ (t ≤ transactions) × (x < objects) ⌝ }
     ensures { λ r. ⌜ r ≡ fails (getD (now (marks .entry)) (t * objects + x) 0 is 0) ⌝ }
 {
@@ -108,7 +108,7 @@ pub fn committed(log: &[u16]) -> usize
 }
 
 // For each transaction, its first step of kind k.
-pub fn first_steps(log: &[u16], k: u16) -> [usize; Transaction::TABLE]
+pub(crate) fn first_steps(log: &[u16], k: u16) -> [usize; Transaction::TABLE]
     ensures { λ r. ⌜ FirstSteps (now (log .entry)) k r ⌝ }
 {
     let mut table = [0usize; Transaction::TABLE];
@@ -121,7 +121,7 @@ pub fn first_steps(log: &[u16], k: u16) -> [usize; Transaction::TABLE]
 }
 
 // For each object, whether t writes it.
-pub fn written(log: &[u16], t: u16) -> [u8; Object::TABLE]
+pub(crate) fn written(log: &[u16], t: u16) -> [u8; Object::TABLE]
     requires { ⌜ log-refusal (now log) ≡ taken ⌝ }
     ensures { λ r. ⌜ Marked objects (λ x. writer (now (log .entry)) x t) r ⌝ }
 {
@@ -141,7 +141,7 @@ pub fn written(log: &[u16], t: u16) -> [u8; Object::TABLE]
 }
 
 // For each transaction, whether it writes x.
-pub fn writers(log: &[u16], x: u16) -> [u8; Transaction::TABLE]
+pub(crate) fn writers(log: &[u16], x: u16) -> [u8; Transaction::TABLE]
     requires { ⌜ log-refusal (now log) ≡ taken ⌝ }
     ensures { λ r. ⌜ Marked (suc transactions) (λ t. writer (now (log .entry)) x t) r ⌝ }
 {
@@ -161,7 +161,7 @@ pub fn writers(log: &[u16], x: u16) -> [u8; Transaction::TABLE]
 }
 
 // All bytes of the work area become 0.
-pub fn clear(work: &mut [u8])
+pub(crate) fn clear(work: &mut [u8])
     ensures { λ _. ⌜ now (work .exit) ≡ zeros (length (now (work .entry))) ⌝ }
 {
     for i in 0..work.len() {
