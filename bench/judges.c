@@ -13,7 +13,7 @@ struct judge {
     with_witness *conflict, *version, *exact;
     uint64_t (*next)(const uint16_t *, size_t, const uint16_t *, size_t, uint8_t *, size_t, uint16_t *, size_t);
     uint64_t (*read)(const uint8_t *, size_t, uint16_t *, size_t);
-    uint64_t (*report)(const uint8_t *, size_t, uint16_t *, size_t, uint8_t *, size_t, uint16_t *, size_t, uint8_t *, size_t);
+    uint64_t (*report)(const uint8_t *, size_t, uint8_t *, size_t);
 };
 
 const struct judge ours = {krupovesh_clean, krupovesh_snapshot, krupovesh_conflict, krupovesh_version,
@@ -33,14 +33,13 @@ uint64_t judge_log(const struct judge *j, unsigned verdict, const struct log *l,
     case 4: return j->exact(l->numbers, l->length, b->work, KRUPOVESH_WORK, b->witness, KRUPOVESH_WITNESS);
     case 5: return j->read(l->text, l->text_length, b->steps, KRUPOVESH_STEPS);
     default:
-        return j->report(l->text, l->text_length, b->steps, KRUPOVESH_STEPS, b->work, KRUPOVESH_WORK,
-                         b->witness, KRUPOVESH_WITNESS, b->out, KRUPOVESH_REPORT);
+        return j->report(l->text, l->text_length, b->out, KRUPOVESH_REPORT);
     }
 }
 
 uint64_t judge_next(const struct judge *j, const struct log *l, struct buffers *b)
 {
-    return j->next(l->numbers, l->length, b->order, KRUPOVESH_WITNESS, b->work, KRUPOVESH_WORK,
+    return j->next(l->numbers, l->length, b->order, KRUPOVESH_HANDED, b->work, KRUPOVESH_WORK,
                    b->witness, KRUPOVESH_WITNESS);
 }
 

@@ -16,7 +16,7 @@ extern const struct judge ours, peer;
 struct buffers {
     uint8_t work[KRUPOVESH_WORK];
     uint16_t witness[KRUPOVESH_WITNESS];
-    uint16_t order[KRUPOVESH_WITNESS];
+    uint16_t order[KRUPOVESH_HANDED];
     uint16_t steps[KRUPOVESH_STEPS];
     uint8_t out[KRUPOVESH_REPORT];
 };

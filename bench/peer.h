@@ -23,8 +23,6 @@ uint64_t peer_next(const uint16_t *log, size_t log_length, const uint16_t *order
 
 uint64_t peer_read(const uint8_t *text, size_t text_length, uint16_t *steps, size_t steps_length);
 
-uint64_t peer_report(const uint8_t *text, size_t text_length, uint16_t *steps, size_t steps_length,
-                     uint8_t *work, size_t work_length, uint16_t *witness, size_t witness_length,
-                     uint8_t *out, size_t out_length);
+uint64_t peer_report(const uint8_t *text, size_t text_length, uint8_t *out, size_t out_length);
 
 #endif

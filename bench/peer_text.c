@@ -158,14 +158,12 @@ static void put_verdicts(struct pen *p, const struct history *h, uint16_t *witne
         put_line(p, "exact=", fault != 0 ? fault : exact_answer(h, witness), witness);
 }
 
-uint64_t peer_report(const uint8_t *text, size_t text_length, uint16_t *steps, size_t steps_length,
-                     uint8_t *work, size_t work_length, uint16_t *witness, size_t witness_length,
-                     uint8_t *out, size_t out_length)
+uint64_t peer_report(const uint8_t *text, size_t text_length, uint8_t *out, size_t out_length)
 {
     struct history h;
     struct pen p = {out, 0};
-    if (steps_length != KRUPOVESH_STEPS || work_length != KRUPOVESH_WORK || witness_length != KRUPOVESH_WITNESS
-        || out_length != KRUPOVESH_REPORT)
+    uint16_t steps[KRUPOVESH_STEPS], witness[KRUPOVESH_WITNESS];
+    if (out_length != KRUPOVESH_REPORT)
         return refused(12, 0);
 
     uint64_t result = parse(text, text_length, steps);
@@ -178,9 +176,6 @@ uint64_t peer_report(const uint8_t *text, size_t text_length, uint16_t *steps, s
         put_number(&p, " at=", KRUPOVESH_SECOND(result));
         put(&p, "\n");
     }
-    memset(steps, 0, steps_length * sizeof *steps);
-    memset(work, 0, work_length);
-    memset(witness, 0, witness_length * sizeof *witness);
     memset(out + p.used, 0, out_length - p.used);
     return answer(KRUPOVESH_ACCEPTED, p.used, 0);
 }

@@ -154,7 +154,7 @@ uint64_t peer_next(const uint16_t *log, size_t log_length, const uint16_t *order
 {
     struct history h;
     struct graph g;
-    if (order_length != KRUPOVESH_WITNESS || work_length != KRUPOVESH_WORK || witness_length != KRUPOVESH_WITNESS)
+    if (order_length != KRUPOVESH_HANDED || work_length != KRUPOVESH_WORK || witness_length != KRUPOVESH_WITNESS)
         return refused(12, 0);
     uint64_t refusal = peer_check(&h, log, log_length);
     if (refusal != 0)

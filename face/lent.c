@@ -7,7 +7,7 @@
 enum { GUARD = 64, ROOM = GUARD + MOST_BYTES + GUARD };
 
 static const size_t right[BUFFERS] = {
-    [ORDER] = KRUPOVESH_WITNESS, [WORK] = KRUPOVESH_WORK, [WITNESS] = KRUPOVESH_WITNESS,
+    [ORDER] = KRUPOVESH_HANDED, [WORK] = KRUPOVESH_WORK, [WITNESS] = KRUPOVESH_WITNESS,
     [STEPS] = KRUPOVESH_STEPS, [OUT] = KRUPOVESH_REPORT};
 static const size_t entry_size[BUFFERS] = {
     [LOG] = 2, [TEXT] = 1, [ORDER] = 2, [WORK] = 1, [WITNESS] = 2, [STEPS] = 2, [OUT] = 1};
@@ -24,7 +24,7 @@ static const unsigned taken[FUNCTIONS] = {
     [EXACT] = 1 << LOG | 1 << WORK | 1 << WITNESS,
     [NEXT] = 1 << LOG | 1 << ORDER | 1 << WORK | 1 << WITNESS,
     [READ] = 1 << TEXT | 1 << STEPS,
-    [REPORT] = 1 << TEXT | 1 << STEPS | 1 << WORK | 1 << WITNESS | 1 << OUT};
+    [REPORT] = 1 << TEXT | 1 << OUT};
 
 /* A buffer stands behind its first guard, and its second guard stands behind it. */
 static union {
@@ -113,8 +113,7 @@ static uint64_t call(enum function f)
         return krupovesh_next(log, length[LOG], order, length[ORDER], work, length[WORK], witness, length[WITNESS]);
     case READ: return krupovesh_read(text, length[TEXT], steps, length[STEPS]);
     default:
-        return krupovesh_report(text, length[TEXT], steps, length[STEPS], work, length[WORK], witness, length[WITNESS],
-                                out, length[OUT]);
+        return krupovesh_report(text, length[TEXT], out, length[OUT]);
     }
 }
 

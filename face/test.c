@@ -115,7 +115,7 @@ static void try_listing(void)
             return;
         lend_all();
         lend(LOG, 4 * e.step_count, e.steps);
-        lend(ORDER, KRUPOVESH_WITNESS, e.orders[i]);
+        lend(ORDER, KRUPOVESH_HANDED, e.orders[i]);
         make_due(WORK, NULL, 0);
         if (is_last) {
             make_due(WITNESS, NULL, 0);
@@ -140,7 +140,7 @@ static void try_stranger(const uint16_t *order)
 {
     lend_all();
     lend(LOG, 4 * e.step_count, e.steps);
-    lend(ORDER, KRUPOVESH_WITNESS, order);
+    lend(ORDER, KRUPOVESH_HANDED, order);
     if (e.is_refused)
         try_call(NEXT, e.refusal, e.name);
     else
@@ -200,9 +200,6 @@ static void try_report(void)
 {
     lend_all();
     lend(TEXT, e.text_length, e.text);
-    make_due(STEPS, NULL, 0);
-    make_due(WORK, NULL, 0);
-    make_due(WITNESS, NULL, 0);
     make_due(OUT, e.report, e.report_length);
     try_call(REPORT, answer(KRUPOVESH_ACCEPTED, (unsigned)e.report_length, 0), e.name);
 }

@@ -34,6 +34,7 @@ extern "C" {
 /* How many entries each lent buffer has to have. */
 #define KRUPOVESH_WORK 16384
 #define KRUPOVESH_WITNESS 128
+#define KRUPOVESH_HANDED 128
 #define KRUPOVESH_STEPS 4096
 #define KRUPOVESH_REPORT 2048
 
@@ -72,18 +73,15 @@ uint64_t krupovesh_version(const uint16_t *log, size_t log_length, uint8_t *work
 uint64_t krupovesh_exact(const uint16_t *log, size_t log_length, uint8_t *work, size_t work_length,
                          uint16_t *witness, size_t witness_length);
 
-/* After the order handed in, which is 128 entries: its members and then zeros. Refused, order, none. */
+/* After the order handed in, which has KRUPOVESH_HANDED entries: its members and then zeros. Refused, order, none. */
 uint64_t krupovesh_next(const uint16_t *log, size_t log_length, const uint16_t *order, size_t order_length,
                         uint8_t *work, size_t work_length, uint16_t *witness, size_t witness_length);
 
 /* Reads a text's steps into the step buffer, zeros behind them. Refused, or accepted with the number of steps. */
 uint64_t krupovesh_read(const uint8_t *text, size_t text_length, uint16_t *steps, size_t steps_length);
 
-/* Writes the report of a text, zeros behind it; steps, work and witness are left all 0.
- * Refused, always with number 12, or accepted with the number of bytes. */
-uint64_t krupovesh_report(const uint8_t *text, size_t text_length, uint16_t *steps, size_t steps_length,
-                          uint8_t *work, size_t work_length, uint16_t *witness, size_t witness_length,
-                          uint8_t *out, size_t out_length);
+/* Writes the report of a text, zeros behind it. Refused, always with number 12, or accepted with the number of bytes. */
+uint64_t krupovesh_report(const uint8_t *text, size_t text_length, uint8_t *out, size_t out_length);
 
 #ifdef __cplusplus
 }

@@ -1,3 +1,3 @@
--- The C face: how one number says an answer. `Small` holds what the functions promise each other.
+-- The C face: how one number says an answer. `Inner` holds what the private functions promise each other.
 pub mod Packed
-pub mod Small
+pub mod Inner

@@ -1,53 +1,54 @@
--- The one number that a C call answers: the low 16 bits are the kind of answer, the next 16 its first value, the next 16 its second.
+-- The one number that a C call answers: its low 16 bits are the kind of answer, then come two values of 16 bits, 0 where there is none.
+-- The kinds: 0 refused, 1 order, 2 cycle, 3 none, 4 aborted, 5 unfinal, 7 yes, 8 read at, 9 write at, 10 accepted.
 use mathlib.Core.Path.{_≡_}
 use Prim.Native.Nat.{ℕ, _+_, _*_}
-use Rattle.verdict.specs.declared.Fault.{Fault}
-use Rattle.verdict.specs.declared.Fault.the-variants.{Aborted, Unfinal}
-use Rattle.verdict.specs.declared.CleanAnswer.{CleanAnswer}
-use Rattle.verdict.specs.declared.CleanAnswer.the-variants as clean-answer
-use Rattle.verdict.specs.declared.SnapshotAnswer.{SnapshotAnswer}
-use Rattle.verdict.specs.declared.SnapshotAnswer.the-variants as snapshot-answer
-use Rattle.verdict.specs.declared.Answer.{Answer}
-use Rattle.verdict.specs.declared.Answer.the-variants as the-answer
-use Rattle.text.specs.declared.ReadAnswer.{ReadAnswer}
-use Rattle.text.specs.declared.ReadAnswer.the-variants as read-answer
-use Rattle.text.specs.declared.reports.ReportAnswer.{ReportAnswer}
-use Rattle.text.specs.declared.reports.ReportAnswer.the-variants as report-answer
+use Rattle.verdict.specs.declared.answers.Fault.{Fault}
+use Rattle.verdict.specs.declared.answers.Cleanness.{Cleanness}
+use Rattle.verdict.specs.declared.answers.Snapshot.{Snapshot}
+use Rattle.verdict.specs.declared.answers.Answer.{Answer}
+use Rattle.verdict.specs.declared.answers.CleanAnswer.{CleanAnswer}
+use Rattle.verdict.specs.declared.answers.SnapshotAnswer.{SnapshotAnswer}
+use Rattle.verdict.specs.declared.answers.WitnessAnswer.{WitnessAnswer}
+use Rattle.text.specs.declared.TextAnswer.{TextAnswer}
 
-unfoldable pub packed : (kind first second : ℕ) → ℕ
-packed kind first second = kind + 65536 * (first + 65536 * second)
+pub record Numbers : Type 0 where
+  pub kind : ℕ
+  pub first : ℕ
+  pub second : ℕ
 
--- the kinds: 0 refused, 1 order, 2 cycle, 3 none, 4 aborted, 5 unfinal, 7 yes, 8 read at, 9 write at, 10 accepted
-unfoldable pub packed-fault : Fault → ℕ
-packed-fault (Aborted k) = packed 4 k 0
-packed-fault (Unfinal k) = packed 5 k 0
+infix 8 _with_and_
+abbrev pub _with_and_ : ℕ → ℕ → ℕ → Numbers
+k with a and b = record { kind = k; first = a; second = b }
 
-unfoldable pub packed-clean : CleanAnswer → ℕ
-packed-clean (clean-answer.Refused number place) = packed 0 number place
-packed-clean clean-answer.Yes = packed 7 0 0
-packed-clean (clean-answer.Unclean f) = packed-fault f
+unfoldable pub fault-numbers : Fault → Numbers
+fault-numbers (Fault.Aborted k) = 4 with k and 0
+fault-numbers (Fault.Unfinal k) = 5 with k and 0
 
-unfoldable pub packed-snapshot : SnapshotAnswer → ℕ
-packed-snapshot (snapshot-answer.Refused number place) = packed 0 number place
-packed-snapshot snapshot-answer.Yes = packed 7 0 0
-packed-snapshot (snapshot-answer.Read k) = packed 8 k 0
-packed-snapshot (snapshot-answer.Write k t) = packed 9 k t
+unfoldable pub clean-numbers : CleanAnswer → Numbers
+clean-numbers (CleanAnswer.Refused number place) = 0 with number and place
+clean-numbers (CleanAnswer.Judged Cleanness.Yes) = 7 with 0 and 0
+clean-numbers (CleanAnswer.Judged (Cleanness.Unclean f)) = fault-numbers f
 
-unfoldable pub packed-answer : Answer → ℕ
-packed-answer (the-answer.Refused number place) = packed 0 number place
-packed-answer (the-answer.Order n) = packed 1 n 0
-packed-answer (the-answer.Cycle n) = packed 2 n 0
-packed-answer the-answer.Nothing = packed 3 0 0
-packed-answer (the-answer.Unclean f) = packed-fault f
+unfoldable pub snapshot-numbers : SnapshotAnswer → Numbers
+snapshot-numbers (SnapshotAnswer.Refused number place) = 0 with number and place
+snapshot-numbers (SnapshotAnswer.Judged Snapshot.Yes) = 7 with 0 and 0
+snapshot-numbers (SnapshotAnswer.Judged (Snapshot.Read k)) = 8 with k and 0
+snapshot-numbers (SnapshotAnswer.Judged (Snapshot.Write k t)) = 9 with k and t
 
-unfoldable pub packed-read : ReadAnswer → ℕ
-packed-read (read-answer.Refused number place) = packed 0 number place
-packed-read (read-answer.Steps n) = packed 10 n 0
+unfoldable pub witness-numbers : WitnessAnswer → Numbers
+witness-numbers (WitnessAnswer.Refused number place) = 0 with number and place
+witness-numbers (WitnessAnswer.Judged (Answer.Order n)) = 1 with n and 0
+witness-numbers (WitnessAnswer.Judged (Answer.Cycle n)) = 2 with n and 0
+witness-numbers (WitnessAnswer.Judged Answer.None) = 3 with 0 and 0
+witness-numbers (WitnessAnswer.Judged (Answer.Unclean f)) = fault-numbers f
 
-unfoldable pub packed-report : ReportAnswer → ℕ
-packed-report (report-answer.Refused number place) = packed 0 number place
-packed-report (report-answer.Length n) = packed 10 n 0
+unfoldable pub text-numbers : TextAnswer → Numbers
+text-numbers (TextAnswer.Refused number place) = 0 with number and place
+text-numbers (TextAnswer.Accepted n) = 10 with n and 0
+
+unfoldable pub packed : Numbers → ℕ
+packed n = n .kind + 65536 * (n .first + 65536 * n .second)
 
 -- r is the number of an answer that the call allows
-pub data Packs {A : Type 0} (call : A → Type 0) (pack : A → ℕ) (r : ℕ) : Type 0 where
-  packs : (a : A) → call a → r ≡ pack a → Packs call pack r
+pub data Packs {A : Type 0} (call : A → Type 0) (numbers : A → Numbers) (r : ℕ) : Type 0 where
+  packs : (a : A) → call a → r ≡ packed (numbers a) → Packs call numbers r

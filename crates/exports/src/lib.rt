@@ -4,17 +4,16 @@ mod pack;
 ghost use Rattle.verdict.specs.Call.{CleanCall, SnapshotCall, ConflictCall, VersionCall, ExactCall, NextCall};
 ghost use Rattle.text.specs.ReadCall.{ReadCall};
 ghost use Rattle.text.specs.ReportCall.{ReportCall};
-ghost use Rattle.exports.specs.Packed.{packed-clean, packed-snapshot, packed-answer, packed-read, packed-report, Packs};
-use crate::pack::pack_answer;
+ghost use Rattle.exports.specs.Packed.{clean-numbers, snapshot-numbers, witness-numbers, text-numbers, Packs};
 use crate::pack::pack_clean;
-use crate::pack::pack_read;
-use crate::pack::pack_report;
 use crate::pack::pack_snapshot;
+use crate::pack::pack_text;
+use crate::pack::pack_witness;
 
 // The clean verdict.
 #[no_mangle]
 pub extern "C" fn krupovesh_clean(log: &[u16], work: &mut [u8]) -> u64
-    ensures { λ r. ⌜ Packs (λ a. CleanCall (now (log .entry)) (now (work .entry)) a (now (work .exit))) packed-clean r ⌝ }
+    ensures { λ r. ⌜ Packs (λ a. CleanCall (now (log .entry)) (now (work .entry)) a (now (work .exit))) clean-numbers r ⌝ }
 {
     let answer = verdict::clean(log, work);
     pack_clean(answer)
@@ -23,7 +22,7 @@ pub extern "C" fn krupovesh_clean(log: &[u16], work: &mut [u8]) -> u64
 // The snapshot verdict.
 #[no_mangle]
 pub extern "C" fn krupovesh_snapshot(log: &[u16], work: &mut [u8]) -> u64
-    ensures { λ r. ⌜ Packs (λ a. SnapshotCall (now (log .entry)) (now (work .entry)) a (now (work .exit))) packed-snapshot r ⌝ }
+    ensures { λ r. ⌜ Packs (λ a. SnapshotCall (now (log .entry)) (now (work .entry)) a (now (work .exit))) snapshot-numbers r ⌝ }
 {
     let answer = verdict::snapshot(log, work);
     pack_snapshot(answer)
@@ -32,28 +31,28 @@ pub extern "C" fn krupovesh_snapshot(log: &[u16], work: &mut [u8]) -> u64
 // The conflict verdict. The order or the cycle is put into the witness.
 #[no_mangle]
 pub extern "C" fn krupovesh_conflict(log: &[u16], work: &mut [u8], witness: &mut [u16]) -> u64
-    ensures { λ r. ⌜ Packs (λ a. ConflictCall (now (log .entry)) (now (work .entry)) (now (witness .entry)) a (now (work .exit)) (now (witness .exit))) packed-answer r ⌝ }
+    ensures { λ r. ⌜ Packs (λ a. ConflictCall (now (log .entry)) (now (work .entry)) (now (witness .entry)) a (now (work .exit)) (now (witness .exit))) witness-numbers r ⌝ }
 {
     let answer = verdict::conflict(log, work, witness);
-    pack_answer(answer)
+    pack_witness(answer)
 }
 
 // The version verdict. The order or the cycle is put into the witness.
 #[no_mangle]
 pub extern "C" fn krupovesh_version(log: &[u16], work: &mut [u8], witness: &mut [u16]) -> u64
-    ensures { λ r. ⌜ Packs (λ a. VersionCall (now (log .entry)) (now (work .entry)) (now (witness .entry)) a (now (work .exit)) (now (witness .exit))) packed-answer r ⌝ }
+    ensures { λ r. ⌜ Packs (λ a. VersionCall (now (log .entry)) (now (work .entry)) (now (witness .entry)) a (now (work .exit)) (now (witness .exit))) witness-numbers r ⌝ }
 {
     let answer = verdict::version(log, work, witness);
-    pack_answer(answer)
+    pack_witness(answer)
 }
 
 // The exact verdict. The order is put into the witness.
 #[no_mangle]
 pub extern "C" fn krupovesh_exact(log: &[u16], work: &mut [u8], witness: &mut [u16]) -> u64
-    ensures { λ r. ⌜ Packs (λ a. ExactCall (now (log .entry)) (now (work .entry)) (now (witness .entry)) a (now (work .exit)) (now (witness .exit))) packed-answer r ⌝ }
+    ensures { λ r. ⌜ Packs (λ a. ExactCall (now (log .entry)) (now (work .entry)) (now (witness .entry)) a (now (work .exit)) (now (witness .exit))) witness-numbers r ⌝ }
 {
     let answer = verdict::exact(log, work, witness);
-    pack_answer(answer)
+    pack_witness(answer)
 }
 
 // "Next": the explaining order after the one handed in is put into the witness.
@@ -64,32 +63,26 @@ pub extern "C" fn krupovesh_next(
     work: &mut [u8],
     witness: &mut [u16],
 ) -> u64
-    ensures { λ r. ⌜ Packs (λ a. NextCall (now (log .entry)) (now (order .entry)) (now (work .entry)) (now (witness .entry)) a (now (work .exit)) (now (witness .exit))) packed-answer r ⌝ }
+    ensures { λ r. ⌜ Packs (λ a. NextCall (now (log .entry)) (now (order .entry)) (now (work .entry)) (now (witness .entry)) a (now (work .exit)) (now (witness .exit))) witness-numbers r ⌝ }
 {
     let answer = verdict::next(log, order, work, witness);
-    pack_answer(answer)
+    pack_witness(answer)
 }
 
 // Reads a text's steps into the step buffer.
 #[no_mangle]
 pub extern "C" fn krupovesh_read(text: &[u8], steps: &mut [u16]) -> u64
-    ensures { λ r. ⌜ Packs (λ a. ReadCall (now (text .entry)) (now (steps .entry)) a (now (steps .exit))) packed-read r ⌝ }
+    ensures { λ r. ⌜ Packs (λ a. ReadCall (now (text .entry)) (now (steps .entry)) a (now (steps .exit))) text-numbers r ⌝ }
 {
     let answer = text::read(text, steps);
-    pack_read(answer)
+    pack_text(answer)
 }
 
 // The report of a text, put first in its buffer.
 #[no_mangle]
-pub extern "C" fn krupovesh_report(
-    text: &[u8],
-    steps: &mut [u16],
-    work: &mut [u8],
-    witness: &mut [u16],
-    out: &mut [u8],
-) -> u64
-    ensures { λ r. ⌜ Packs (λ a. ReportCall (now (text .entry)) (now (steps .entry)) (now (work .entry)) (now (witness .entry)) (now (out .entry)) a (now (steps .exit)) (now (work .exit)) (now (witness .exit)) (now (out .exit))) packed-report r ⌝ }
+pub extern "C" fn krupovesh_report(text: &[u8], out: &mut [u8]) -> u64
+    ensures { λ r. ⌜ Packs (λ a. ReportCall (now (text .entry)) (now (out .entry)) a (now (out .exit))) text-numbers r ⌝ }
 {
-    let answer = text::report(text, steps, work, witness, out);
-    pack_report(answer)
+    let answer = text::report(text, out);
+    pack_text(answer)
 }

@@ -1,13 +1,15 @@
 // The one number in which a C call answers.
 ghost use mathlib.Core.Path.{_≡_};
-ghost use Rattle.exports.specs.Packed.{packed, packed-fault, packed-clean, packed-snapshot, packed-answer, packed-read, packed-report};
-ghost use Rattle.exports.specs.Small.{Small};
-use text::ReadAnswer;
-use text::ReportAnswer;
-use verdict::Answer;
-use verdict::CleanAnswer;
-use verdict::Fault;
-use verdict::SnapshotAnswer;
+ghost use Rattle.exports.specs.Packed.{_with_and_, fault-numbers, clean-numbers, snapshot-numbers, witness-numbers, text-numbers, packed};
+ghost use Rattle.exports.specs.Inner.Small.{Small};
+use text::TextAnswer;
+use verdict::answers::Answer;
+use verdict::answers::CleanAnswer;
+use verdict::answers::Cleanness;
+use verdict::answers::Fault;
+use verdict::answers::Snapshot;
+use verdict::answers::SnapshotAnswer;
+use verdict::answers::WitnessAnswer;
 
 // The kinds of answer.
 const REFUSED: u64 = 0;
@@ -32,16 +34,16 @@ const ACCEPTED: u64 = 10;
 
 // The number of a kind and two values: 16 bits for each, the kind lowest.
 fn pack(kind: u64, first: u64, second: u64) -> u64
-    requires { ⌜ Small (packed kind first second) ⌝ }
-    ensures { λ r. ⌜ r ≡ packed kind first second ⌝ }
+    requires { ⌜ Small (packed (kind with first and second)) ⌝ }
+    ensures { λ r. ⌜ r ≡ packed (kind with first and second) ⌝ }
 {
     kind + 65536 * (first + 65536 * second)
 }
 
 // The number of a fault.
 fn pack_fault(fault: Fault) -> u64
-    requires { ⌜ Small (packed-fault fault) ⌝ }
-    ensures { λ r. ⌜ r ≡ packed-fault fault ⌝ }
+    requires { ⌜ Small (packed (fault-numbers fault)) ⌝ }
+    ensures { λ r. ⌜ r ≡ packed (fault-numbers fault) ⌝ }
 {
     match fault {
         Fault::Aborted(k) => pack(ABORTED, k as u64, 0),
@@ -51,61 +53,56 @@ fn pack_fault(fault: Fault) -> u64
 
 // The number of what the clean verdict answers.
 pub(crate) fn pack_clean(answer: CleanAnswer) -> u64
-    requires { ⌜ Small (packed-clean answer) ⌝ }
-    ensures { λ r. ⌜ r ≡ packed-clean answer ⌝ }
+    requires { ⌜ Small (packed (clean-numbers answer)) ⌝ }
+    ensures { λ r. ⌜ r ≡ packed (clean-numbers answer) ⌝ }
 {
     match answer {
         CleanAnswer::Refused(number, place) => pack(REFUSED, number as u64, place as u64),
-        CleanAnswer::Yes => pack(YES, 0, 0),
-        CleanAnswer::Unclean(fault) => pack_fault(fault),
+        CleanAnswer::Judged(clean) => match clean {
+            Cleanness::Yes => pack(YES, 0, 0),
+            Cleanness::Unclean(fault) => pack_fault(fault),
+        },
     }
 }
 
 // The number of what the snapshot verdict answers.
 pub(crate) fn pack_snapshot(answer: SnapshotAnswer) -> u64
-    requires { ⌜ Small (packed-snapshot answer) ⌝ }
-    ensures { λ r. ⌜ r ≡ packed-snapshot answer ⌝ }
+    requires { ⌜ Small (packed (snapshot-numbers answer)) ⌝ }
+    ensures { λ r. ⌜ r ≡ packed (snapshot-numbers answer) ⌝ }
 {
     match answer {
         SnapshotAnswer::Refused(number, place) => pack(REFUSED, number as u64, place as u64),
-        SnapshotAnswer::Yes => pack(YES, 0, 0),
-        SnapshotAnswer::Read(k) => pack(READ_AT, k as u64, 0),
-        SnapshotAnswer::Write(k, t) => pack(WRITE_AT, k as u64, t as u64),
+        SnapshotAnswer::Judged(snapshot) => match snapshot {
+            Snapshot::Yes => pack(YES, 0, 0),
+            Snapshot::Read(k) => pack(READ_AT, k as u64, 0),
+            Snapshot::Write(k, t) => pack(WRITE_AT, k as u64, t as u64),
+        },
     }
 }
 
 // The number of what a verdict with a witness answers, and "next".
-pub(crate) fn pack_answer(answer: Answer) -> u64
-    requires { ⌜ Small (packed-answer answer) ⌝ }
-    ensures { λ r. ⌜ r ≡ packed-answer answer ⌝ }
+pub(crate) fn pack_witness(answer: WitnessAnswer) -> u64
+    requires { ⌜ Small (packed (witness-numbers answer)) ⌝ }
+    ensures { λ r. ⌜ r ≡ packed (witness-numbers answer) ⌝ }
 {
     match answer {
-        Answer::Refused(number, place) => pack(REFUSED, number as u64, place as u64),
-        Answer::Order(n) => pack(ORDER, n as u64, 0),
-        Answer::Cycle(n) => pack(CYCLE, n as u64, 0),
-        Answer::Nothing => pack(NONE, 0, 0),
-        Answer::Unclean(fault) => pack_fault(fault),
+        WitnessAnswer::Refused(number, place) => pack(REFUSED, number as u64, place as u64),
+        WitnessAnswer::Judged(judged) => match judged {
+            Answer::Order(n) => pack(ORDER, n as u64, 0),
+            Answer::Cycle(n) => pack(CYCLE, n as u64, 0),
+            Answer::None => pack(NONE, 0, 0),
+            Answer::Unclean(fault) => pack_fault(fault),
+        },
     }
 }
 
-// The number of what reading a text answers.
-pub(crate) fn pack_read(answer: ReadAnswer) -> u64
-    requires { ⌜ Small (packed-read answer) ⌝ }
-    ensures { λ r. ⌜ r ≡ packed-read answer ⌝ }
+// The number of what a call over a text answers.
+pub(crate) fn pack_text(answer: TextAnswer) -> u64
+    requires { ⌜ Small (packed (text-numbers answer)) ⌝ }
+    ensures { λ r. ⌜ r ≡ packed (text-numbers answer) ⌝ }
 {
     match answer {
-        ReadAnswer::Refused(number, place) => pack(REFUSED, number as u64, place as u64),
-        ReadAnswer::Steps(n) => pack(ACCEPTED, n as u64, 0),
-    }
-}
-
-// The number of what a report answers.
-pub(crate) fn pack_report(answer: ReportAnswer) -> u64
-    requires { ⌜ Small (packed-report answer) ⌝ }
-    ensures { λ r. ⌜ r ≡ packed-report answer ⌝ }
-{
-    match answer {
-        ReportAnswer::Refused(number, place) => pack(REFUSED, number as u64, place as u64),
-        ReportAnswer::Length(n) => pack(ACCEPTED, n as u64, 0),
+        TextAnswer::Refused(number, place) => pack(REFUSED, number as u64, place as u64),
+        TextAnswer::Accepted(n) => pack(ACCEPTED, n as u64, 0),
     }
 }

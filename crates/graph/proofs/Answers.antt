@@ -1,58 +1,56 @@
--- What `sort` and `next` answer, from what was found and laid into a cleared witness.
-use mathlib.Core.Path.{_≡_, refl, sym, ap, _∙_}
+-- What `sort` and `next` answer, from what was found and laid into zeros.
+use mathlib.Core.Path.{_≡_, _∙_}
 use mathlib.Core.Bool.{true, false}
 use mathlib.Core.List.{List, []}
-use mathlib.Core.Option.{none, some as just}
-use Prim.Native.Nat.{ℕ, _≤_, _<_}
+use mathlib.Core.Option.{Option, none, some as just}
+use Prim.Native.Nat.{ℕ, _≤_}
 use native.Mathlib.Omega.{arith}
 use lib.ListN.{length}
-use Rattle.words.specs.Tests.{some}
-use Rattle.words.specs.Lists.{zeros, entries}
-use Rattle.words.specs.First.{dictionary, First, earliest, not-any, later}
-use Rattle.graph.specs.Shows.{order, cycle, members, shows-order, shows-cycle}
-use Rattle.graph.specs.Matrix.{takes-part, matrix-order, told, told-later, later-members, Sorts, Follows}
-use Rattle.graph.specs.Steps.{laid, Places, Followed, Cycled}
-use Rattle.graph.specs.declared.Answer.the-variants.{Order, Cycle}
-use Rattle.graph.specs.declared.Later.the-variants.{Found, Nothing}
-use Rattle.words.proofs.Truth.{and→}
+use Rattle.words.specs.Tests.{_below_, some}
+use Rattle.words.specs.Lists.{zeros}
+use Rattle.words.specs.First.{dictionary, First, later}
+use Rattle.graph.specs.Matrix.{Earliest, earliest, not-any, takes-part, matrix-order, is-some, later-members, Sorts, Follows}
+use Rattle.graph.specs.Shows.{shows-order, shows-cycle}
+use Rattle.graph.specs.Inner.Laying.{laid, until, Places, Followed}
+use Rattle.graph.specs.Inner.Distances.{Cycled}
+use Rattle.graph.specs.declared.Shape.the-variants.{Order, Cycle}
+use Rattle.graph.specs.declared.Shown.{Shown}
+use Rattle.graph.specs.declared.Later.{Later}
+use Rattle.words.proofs.Truth.{and→, →below, →not-below}
 use Rattle.graph.proofs.Sized.{order-size, order-acyclic, most}
-use Rattle.graph.proofs.Laid.{laid-none, laid-entries}
-use Rattle.graph.proofs.Turn.{found-none, found-some}
+use Rattle.graph.proofs.Laid.{laid-entries}
+use Rattle.graph.proofs.Turn.{later-long}
 
 module _ (m part : List ℕ) (size : length part ≡ 128) where
   pub order-short : (w : List ℕ) → matrix-order 128 m part w ≡ true → length w ≤ 128
   order-short w h = omega (arith, order-size 128 m part w (omega arith) h, most 128 m part)
 
-  module _ (cleared : List ℕ) (clear : cleared ≡ zeros 128) where
-    -- the witness once w was laid into it
-    laid-down : (w : List ℕ) → length w ≤ 128 → laid 0 w cleared ≡ entries 128 w
-    laid-down w h = ap (laid 0 w) clear ∙ laid-entries 128 w h
+  -- a later order has members, so one was found where something was laid down
+  pub next-follows : (v : List ℕ) (r : Later) → r .found ≡ (0 below r .count) → Followed m part v 0 (zeros 128) (r .count) (r .list) → Follows 128 m part v r
+  unfolding until is-some later-members later
+  next-follows v r t f = go (f .found) (f .right) (f .counted) (f .lies)
+    where
+      go : (o : Option (List ℕ)) → Earliest (later (matrix-order 128 m part) v) o → r .count ≡ until 0 o → r .list ≡ laid 0 (later-members o) (zeros 128) → Follows 128 m part v r
+      go (just w) (earliest g) c l =
+          record {
+            earliest = just w;
+            right = earliest g;
+            told = t ∙ →below (omega (arith, later-long (matrix-order 128 m part) v w (g .one)));
+            listed = l ∙ laid-entries 128 w (order-short w (and→ (g .one) .0));
+            counted = omega arith;
+          }
+      go none (not-any g) c l = record { earliest = none; right = not-any g; told = t ∙ →not-below (omega arith); listed = l ∙ laid-entries 128 [] (omega arith); counted = c }
 
-    pub next-nothing : (v : List ℕ) (n : ℕ) (witness : List ℕ) → Followed m part v 0 cleared n witness → n ≤ 0 → Follows 128 m part v Nothing witness
-    unfolding told-later later-members
-    next-nothing v n witness f h =
-        let r = found-none f h in
-        record { found = none; right = not-any (r .0); answer = refl; left = r .1 ∙ sym (laid-none 0 cleared) ∙ laid-down [] (omega arith) }
+  pub sort-order : (r : Shown) (rest : List ℕ) → r .shape ≡ Order → Places m part 0 (zeros 128) (r .count) rest (r .list) → some 129 (takes-part 128 rest) ≡ false → Sorts 128 m part r
+  unfolding matrix-order
+  sort-order r rest s p h =
+      let f : First dictionary (matrix-order 128 m part) (p .placed) = p .order h in
+      record {
+        members = p .placed;
+        right = rw s (shows-order (order-acyclic 128 m part (p .placed) (f .one)) f);
+        listed = p .lies ∙ laid-entries 128 (p .placed) (order-short (p .placed) (f .one));
+        counted = omega (arith, p .counted);
+      }
 
-    pub next-found : (v : List ℕ) (n : ℕ) (witness : List ℕ) → Followed m part v 0 cleared n witness → 0 < n → Follows 128 m part v (Found n) witness
-    unfolding told-later later-members later
-    next-found v n witness f h =
-        let r = found-some f h in
-        let e : n ≡ length (r .0) = omega (arith, r .2) in
-        record { found = just (r .0); right = earliest (r .1); answer = ap Found e; left = r .3 ∙ laid-down (r .0) (order-short (r .0) (and→ (r .1 .one) .0)) }
-
-    pub sort-order : (n : ℕ) (rest witness : List ℕ) → Places m part 0 cleared n rest witness → some 129 (takes-part 128 rest) ≡ false → Sorts 128 m part (Order n) witness
-    unfolding told members matrix-order
-    sort-order n rest witness p h =
-        let f : First dictionary (matrix-order 128 m part) (p .placed) = p .order h in
-        let e : n ≡ length (p .placed) = omega (arith, p .counted) in
-        record {
-          shown = order (p .placed);
-          right = shows-order (order-acyclic 128 m part (p .placed) (f .one)) f;
-          answer = ap Order e;
-          left = p .lies ∙ laid-down (p .placed) (order-short (p .placed) (f .one));
-        }
-
-    pub sort-cycle : (n : ℕ) (witness : List ℕ) → Cycled m part cleared n witness → Sorts 128 m part (Cycle n) witness
-    unfolding told members
-    sort-cycle n witness c = record { shown = cycle (c .members); right = shows-cycle (c .first); answer = ap Cycle (c .counted); left = c .lies ∙ laid-down (c .members) (c .room) }
+pub sort-cycle : (m part : List ℕ) (r : Shown) → r .shape ≡ Cycle → Cycled m part (zeros 128) (r .count) (r .list) → Sorts 128 m part r
+sort-cycle m part r s c = record { members = c .members; right = rw s (shows-cycle (c .first)); listed = c .lies ∙ laid-entries 128 (c .members) (c .room); counted = c .counted }

@@ -7,7 +7,7 @@ use lib.ListN.{length}
 use native.Mathlib.Omega.{arith}
 use Rattle.words.specs.Tests.{_upto_, _and_, count, lowest}
 use Rattle.graph.specs.Matrix.{takes-part}
-use Rattle.graph.specs.Steps.{may-begin, unmarked}
+use Rattle.graph.specs.Inner.Peel.{may-begin, unmarked}
 use Rattle.words.proofs.Truth.{to-false, and→, →and, upto→, →upto, lowest-is, lowest-le, lowest-passes}
 use Rattle.graph.proofs.Peel.{free→}
 use Rattle.graph.proofs.Marks.{Part, part→}

@@ -8,7 +8,8 @@ use lib.ListN.{length, set, length-set, length-append}
 use Rattle.words.specs.Tests.{_upto_, _and_, count, lowest}
 use Rattle.words.specs.First.{dictionary, First}
 use Rattle.graph.specs.Matrix.{takes-part, joined, matrix-order}
-use Rattle.graph.specs.Steps.{may-begin, apart, unmarked, laid, Places}
+use Rattle.graph.specs.Inner.Peel.{may-begin, apart, unmarked}
+use Rattle.graph.specs.Inner.Laying.{laid, Places}
 use Rattle.words.proofs.Truth.{not-both, to-false, →none}
 use Rattle.graph.proofs.Peel.{free→, apart→}
 use Rattle.graph.proofs.Marks.{part→, ends, no-loop, joined-apart, order-without}
@@ -16,25 +17,25 @@ use Rattle.graph.proofs.Greedy.{cycle-more, first-none, first-next, stu
 use Rattle.graph.proofs.Begins.{lowest→, none-begins, lowest-less}
 use Rattle.graph.proofs.Laid.{laid-none, laid-more}
 
--- what `place` has laid down after some turns, from place i on: n entries stand, and `rest` are the marks that are left
-pub record Filled (m left : List ℕ) (i : ℕ) (witness : List ℕ) (n : ℕ) (rest witness′ : List ℕ) : Type 0 where
+-- what `lay_down` has put there after some turns, from place i on: n entries stand, and `rest` are the marks that are left
+pub record Filled (m left : List ℕ) (i : ℕ) (list : List ℕ) (n : ℕ) (rest list′ : List ℕ) : Type 0 where
   pub placed : List ℕ
   pub counted : n ≡ i + length placed
-  pub lies : witness′ ≡ laid i placed witness
+  pub lies : list′ ≡ laid i placed list
   pub size : length rest ≡ 128
   pub room : n + count 129 (takes-part 128 rest) ≤ 128
   pub front : (u : List ℕ) → First dictionary (matrix-order 128 m rest) u → First dictionary (matrix-order 128 m left) (placed ++ u)
   pub inner : (a b : ℕ) → joined 128 m rest a b ≡ true → joined 128 m left a b ≡ true
 
-pub filled-none : (m left : List ℕ) (i : ℕ) (witness : List ℕ) → length left ≡ 128 → i + count 129 (takes-part 128 left) ≤ 128 → Filled m left i witness i left witness
-filled-none m left i witness size room =
-    record { placed = []; counted = omega arith; lies = sym (laid-none i witness); size = size; room = room; front = λ u f. f; inner = λ a b h. h }
+pub filled-none : (m left : List ℕ) (i : ℕ) (list : List ℕ) → length left ≡ 128 → i + count 129 (takes-part 128 left) ≤ 128 → Filled m left i list i left list
+filled-none m left i list size room =
+    record { placed = []; counted = omega arith; lies = sym (laid-none i list); size = size; room = room; front = λ u f. f; inner = λ a b h. h }
 
-module _ {m left : List ℕ} {i : ℕ} {witness : List ℕ} {n : ℕ} {rest witness′ : List ℕ} (f : Filled m left i witness n rest witness′) (v : ℕ) (is-lowest : v ≡ lowest 129 (λ t. 1 upto t and may-begin m rest t)) where
+module _ {m left : List ℕ} {i : ℕ} {list : List ℕ} {n : ℕ} {rest list′ : List ℕ} (f : Filled m left i list n rest list′) (v : ℕ) (is-lowest : v ≡ lowest 129 (λ t. 1 upto t and may-begin m rest t)) where
   pub filled-next : v ≤ 128 → (1 ≤ v) × (n < 128)
   filled-next h = (lowest→ m rest 1 v is-lowest h .from, omega (arith, f .room, lowest-less m rest 1 v is-lowest (f .size) h))
 
-  pub filled-more : v ≤ 128 → Filled m left i witness (n + 1) (unmarked v rest) (set witness′ n v)
+  pub filled-more : v ≤ 128 → Filled m left i list (n + 1) (unmarked v rest) (set list′ n v)
   unfolding matrix-order
   filled-more h =
       let l = lowest→ m rest 1 v is-lowest h in
@@ -43,7 +44,7 @@ module _ {m left : List ℕ} {i : ℕ} {witness : List ℕ} {n : ℕ} {rest witn
       record {
         placed = f .placed ++ v ∷ [];
         counted = simp length-append (omega (arith, f .counted));
-        lies = rw (f .lies, f .counted) (sym (laid-more i (f .placed) witness v));
+        lies = rw (f .lies, f .counted) (sym (laid-more i (f .placed) list v));
         size = unfold unmarked in (simp length-set (f .size));
         room = omega (arith, f .room, lowest-less m rest 1 v is-lowest (f .size) h);
         front = λ u g.
@@ -51,7 +52,7 @@ module _ {m left : List ℕ} {i : ℕ} {witness : List ℕ} {n : ℕ} {rest witn
         inner = λ a b k. f .inner a b (apart→ (joined 128 m rest) (ap (λ (e : ℕ → ℕ → Bool). e a b) (sym edges) ∙ k) .0);
       }
 
-  pub filled-all : 128 < v → Places m left i witness n rest witness′
+  pub filled-all : 128 < v → Places m left i list n rest list′
   unfolding matrix-order
   filled-all h =
       record {

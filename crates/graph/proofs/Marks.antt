@@ -11,7 +11,7 @@ use lib.Seq.{drop-cons, getD-set-same, getD-set-other}
 use Rattle.words.specs.Tests.{_and_, fails, some}
 use Rattle.graph.specs.Matrix.{takes-part, joined, matrix-order}
 use Rattle.graph.specs.Order.{is-order}
-use Rattle.graph.specs.Steps.{free, without, apart, unmarked}
+use Rattle.graph.specs.Inner.Peel.{free, without, apart, unmarked}
 use Rattle.words.proofs.Truth.{decide, to-false, same-test, and→, →and, and-no-left, →fails, fails→, isnt→, →isnt, upto→, →upto}
 use Rattle.graph.proofs.Peel.{without→, →without, apart→, →apart, peel, peel-none, free→}
 

@@ -10,7 +10,7 @@ use Rattle.words.specs.First.{Never}
 use Rattle.graph.specs.Order.{is-order}
 use Rattle.graph.specs.Cycle.{is-cycle}
 use Rattle.graph.specs.Matrix.{takes-part, joined, matrix-order}
-use Rattle.graph.specs.Steps.{unmarked}
+use Rattle.graph.specs.Inner.Peel.{unmarked}
 use Rattle.words.proofs.Truth.{and→, fails→, count-none, count-above}
 use Rattle.graph.proofs.Peel.{free→, order→, count-without}
 use Rattle.graph.proofs.Marks.{zero-out, part→, ends, parts-without, matrix-peel, matrix-none}

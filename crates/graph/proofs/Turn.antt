@@ -9,10 +9,11 @@ use native.Mathlib.Numerals.{add-one}
 use lib.ListN.{length, getD, drop, set, length-drop, drop-of-length-le}
 use lib.Seq.{drop-cons}
 use Rattle.words.specs.Tests.{_upto_, _and_, some, count, lowest}
-use Rattle.words.specs.First.{dictionary, First, Never, Earliest, earliest, not-any, later}
+use Rattle.words.specs.First.{dictionary, First, Never, later}
+use Rattle.graph.specs.Matrix.{Earliest, earliest, not-any, takes-part, joined, matrix-order, later-members}
 use Rattle.graph.specs.Cycle.{is-cycle}
-use Rattle.graph.specs.Matrix.{takes-part, joined, matrix-order, later-members}
-use Rattle.graph.specs.Steps.{may-begin, unmarked, laid, until, Places, Followed}
+use Rattle.graph.specs.Inner.Peel.{may-begin, unmarked}
+use Rattle.graph.specs.Inner.Laying.{laid, until, Places, Followed}
 use Rattle.words.proofs.Truth.{not-both, to-false, and→, fails→, none→}
 use Rattle.graph.proofs.Peel.{free→, apart→}
 use Rattle.graph.proofs.Marks.{Part, part→, joined-apart, matrix-peel, matrix-none}
@@ -23,30 +24,30 @@ use Rattle.graph.proofs.Begins.{Lowest, lowest→, none-begins}
 use Rattle.graph.proofs.Laid.{laid-none, laid-last, laid-front}
 
 -- a list later than another is not empty
-later-long : (passes : List ℕ → Bool) (v u : List ℕ) → later passes v u ≡ true → 0 < length u
+pub later-long : (passes : List ℕ → Bool) (v u : List ℕ) → later passes v u ≡ true → 0 < length u
 unfolding later dictionary
 later-long passes v [] h = absurd (false≢true (and→ h .1))
 later-long passes v (a ∷ u) h = omega arith
 
 -- nothing was found: nothing is later, and nothing was laid down
-pub found-none : {m left v : List ℕ} {i : ℕ} {witness : List ℕ} {n : ℕ} {witness′ : List ℕ} → Followed m left v i witness n witness′ → n ≤ 0
-    → Never (later (matrix-order 128 m left) v) × (witness′ ≡ witness)
+found-none : {m left v : List ℕ} {i : ℕ} {list : List ℕ} {n : ℕ} {list′ : List ℕ} → Followed m left v i list n list′ → n ≤ 0
+    → Never (later (matrix-order 128 m left) v) × (list′ ≡ list)
 unfolding until later-members
-found-none {m} {left} {v} {i} {witness} {n} {witness′} f h = go (f .found) (f .right) (f .counted) (f .lies)
+found-none {m} {left} {v} {i} {list} {n} {list′} f h = go (f .found) (f .right) (f .counted) (f .lies)
   where
-    go : (o : Option (List ℕ)) → Earliest (later (matrix-order 128 m left) v) o → n ≡ until i o → witness′ ≡ laid i (later-members o) witness
-        → Never (later (matrix-order 128 m left) v) × (witness′ ≡ witness)
-    go none (not-any g) c l = (g, l ∙ laid-none i witness)
+    go : (o : Option (List ℕ)) → Earliest (later (matrix-order 128 m left) v) o → n ≡ until i o → list′ ≡ laid i (later-members o) list
+        → Never (later (matrix-order 128 m left) v) × (list′ ≡ list)
+    go none (not-any g) c l = (g, l ∙ laid-none i list)
     go (just u) (earliest g) c l = absurd (omega (arith, later-long _ v u (g .one)))
 
 -- .. and else what was found is a list
-pub found-some : {m left v : List ℕ} {i : ℕ} {witness : List ℕ} {n : ℕ} {witness′ : List ℕ} → Followed m left v i witness n witness′ → 0 < n
-    → (u : List ℕ) × First dictionary (later (matrix-order 128 m left) v) u × (n ≡ i + length u) × (witness′ ≡ laid i u witness)
+found-some : {m left v : List ℕ} {i : ℕ} {list : List ℕ} {n : ℕ} {list′ : List ℕ} → Followed m left v i list n list′ → 0 < n
+    → (u : List ℕ) × First dictionary (later (matrix-order 128 m left) v) u × (n ≡ i + length u) × (list′ ≡ laid i u list)
 unfolding until later-members
-found-some {m} {left} {v} {i} {witness} {n} {witness′} f h = go (f .found) (f .right) (f .counted) (f .lies)
+found-some {m} {left} {v} {i} {list} {n} {list′} f h = go (f .found) (f .right) (f .counted) (f .lies)
   where
-    go : (o : Option (List ℕ)) → Earliest (later (matrix-order 128 m left) v) o → n ≡ until i o → witness′ ≡ laid i (later-members o) witness
-        → (u : List ℕ) × First dictionary (later (matrix-order 128 m left) v) u × (n ≡ i + length u) × (witness′ ≡ laid i u witness)
+    go : (o : Option (List ℕ)) → Earliest (later (matrix-order 128 m left) v) o → n ≡ until i o → list′ ≡ laid i (later-members o) list
+        → (u : List ℕ) × First dictionary (later (matrix-order 128 m left) v) u × (n ≡ i + length u) × (list′ ≡ laid i u list)
     go (just u) (earliest g) c l = (u, g, c, l)
     go none g c l = absurd (omega arith)
 
@@ -55,15 +56,15 @@ module _ (m left : List ℕ) (size : length left ≡ 128) where
   peeled = matrix-peel 128 m left (omega arith)
 
   -- nothing is left: nothing is later
-  pub turn-end : matrix-order 128 m left [] ≡ true → (i : ℕ) (witness : List ℕ) → Followed m left [] i witness 0 witness
+  pub turn-end : matrix-order 128 m left [] ≡ true → (i : ℕ) (list : List ℕ) → Followed m left [] i list 0 list
   unfolding until later-members
-  turn-end h i witness =
+  turn-end h i list =
       record {
         found = none;
         right = not-any (later-end (may-begin m left) (matrix-order 128 m left) (λ a. matrix-order 128 m (unmarked a left)) peeled
             (λ t. to-false _ (λ b. not-both (free→ b .is-node) (none→ _ (fails→ (sym (matrix-none 128 m left) ∙ h)) t (free→ b .bound)))));
         counted = refl;
-        lies = sym (laid-none i witness);
+        lies = sym (laid-none i list);
       }
 
   module _ (a : ℕ) (w : List ℕ) (ordered : matrix-order 128 m left (a ∷ w) ≡ true) where
@@ -74,20 +75,20 @@ module _ (m left : List ℕ) (size : length left ≡ 128) where
     turn-rest = and→ (sym (peeled a w) ∙ ordered) .1
 
     -- a later order begins with a too
-    pub turn-same : (i n : ℕ) (witness witness′ : List ℕ) → Followed m (unmarked a left) w (i + 1) witness n witness′ → 0 < n → Followed m left (a ∷ w) i witness n (set witness′ i a)
+    pub turn-same : (i n : ℕ) (list list′ : List ℕ) → Followed m (unmarked a left) w (i + 1) list n list′ → 0 < n → Followed m left (a ∷ w) i list n (set list′ i a)
     unfolding until later-members
-    turn-same i n witness witness′ f h =
+    turn-same i n list list′ f h =
         let r = found-some f h in
         record {
           found = just (a ∷ r .0);
           right = earliest (later-same (may-begin m left) (matrix-order 128 m left) (λ b. matrix-order 128 m (unmarked b left)) peeled a w (r .0) turn-begin (r .1));
           counted = omega (arith, r .2);
-          lies = ap (λ (z : List ℕ). set z i a) (r .3) ∙ laid-last i (r .0) witness a;
+          lies = ap (λ (z : List ℕ). set z i a) (r .3) ∙ laid-last i (r .0) list a;
         }
 
     -- no later order begins with a: the lowest beginning that is higher is b
-    module _ (never : Never (later (matrix-order 128 m (unmarked a left)) w)) (b : ℕ) (is-lowest : b ≡ lowest 129 (λ t. (a + 1) upto t and may-begin m left t)) (i : ℕ) (witness : List ℕ) where
-      pub turn-none : 128 < b → Followed m left (a ∷ w) i witness 0 witness
+    module _ (never : Never (later (matrix-order 128 m (unmarked a left)) w)) (b : ℕ) (is-lowest : b ≡ lowest 129 (λ t. (a + 1) upto t and may-begin m left t)) (i : ℕ) (list : List ℕ) where
+      pub turn-none : 128 < b → Followed m left (a ∷ w) i list 0 list
       unfolding until later-members
       turn-none h =
           record {
@@ -95,18 +96,18 @@ module _ (m left : List ℕ) (size : length left ≡ 128) where
             right = not-any (later-none (may-begin m left) (matrix-order 128 m left) (λ c. matrix-order 128 m (unmarked c left)) peeled a w never
                 (λ t q l. not-both q (none-begins m left (a + 1) b is-lowest h t (omega arith))));
             counted = refl;
-            lies = sym (laid-none i witness);
+            lies = sym (laid-none i list);
           }
 
-      pub turn-other : b ≤ 128 → (n : ℕ) (rest witness′ : List ℕ) → Places m (unmarked b left) (i + 1) (set witness i b) n rest witness′ → Followed m left (a ∷ w) i witness n witness′
+      pub turn-other : b ≤ 128 → (n : ℕ) (rest list′ : List ℕ) → Places m (unmarked b left) (i + 1) (set list i b) n rest list′ → Followed m left (a ∷ w) i list n list′
       unfolding until later-members
-      turn-other h n rest witness′ p =
+      turn-other h n rest list′ p =
           record {
             found = just (b ∷ p .placed);
             right = earliest (later-other (may-begin m left) (matrix-order 128 m left) (λ c. matrix-order 128 m (unmarked c left)) peeled a w never b (p .placed)
                 (low .begins) (omega (arith, low .from)) (λ t q g. low .least t q (omega arith)) (p .order all));
             counted = omega (arith, p .counted);
-            lies = p .lies ∙ laid-front i (p .placed) witness b;
+            lies = p .lies ∙ laid-front i (p .placed) list b;
           }
         where
           low : Lowest m left (a + 1) b
@@ -123,8 +124,8 @@ module _ (m left : List ℕ) (size : length left ≡ 128) where
 
 -- The same where the given list is read from place i on.
 module _ (m left : List ℕ) (size : length left ≡ 128) (given : List ℕ) (i : ℕ) (ordered : matrix-order 128 m left (drop i given) ≡ true) where
-  pub at-end : length given ≤ i → (witness : List ℕ) → Followed m left (drop i given) i witness 0 witness
-  at-end h witness = rw (drop-of-length-le given h) (turn-end m left size (rw (drop-of-length-le given h) at ordered) i witness)
+  pub at-end : length given ≤ i → (list : List ℕ) → Followed m left (drop i given) i list 0 list
+  at-end h list = rw (drop-of-length-le given h) (turn-end m left size (rw (drop-of-length-le given h) at ordered) i list)
 
   module _ (h : i < length given) where
     entry : drop i given ≡ getD given i 0 ∷ drop (i + 1) given
@@ -142,13 +143,13 @@ module _ (m left : List ℕ) (size : length left ≡ 128) (given : List ℕ) (i 
     pub at-room : length given ≤ 128 → i + count 129 (takes-part 128 left) ≤ 128
     at-room l = omega (arith, order-size 128 m left (drop i given) (omega arith) ordered, length-drop i given)
 
-    module _ (n : ℕ) (witness witness′ : List ℕ) (f : Followed m (unmarked (getD given i 0) left) (drop (i + 1) given) (i + 1) witness n witness′) where
-      pub at-same : 0 < n → Followed m left (drop i given) i witness n (set witness′ i (getD given i 0))
-      at-same k = rw entry (turn-same m left size (getD given i 0) (drop (i + 1) given) begun i n witness witness′ f k)
+    module _ (n : ℕ) (list list′ : List ℕ) (f : Followed m (unmarked (getD given i 0) left) (drop (i + 1) given) (i + 1) list n list′) where
+      pub at-same : 0 < n → Followed m left (drop i given) i list n (set list′ i (getD given i 0))
+      at-same k = rw entry (turn-same m left size (getD given i 0) (drop (i + 1) given) begun i n list list′ f k)
 
-      pub at-higher : n ≤ 0 → (k : ℕ) (witness″ : List ℕ)
-          → ((w : List ℕ) → matrix-order 128 m left (getD given i 0 ∷ w) ≡ true → Never (later (matrix-order 128 m (unmarked (getD given i 0) left)) w) → Followed m left (getD given i 0 ∷ w) i witness′ k witness″)
-          → Followed m left (drop i given) i witness k witness″
-      at-higher z k witness″ g =
+      pub at-higher : n ≤ 0 → (k : ℕ) (list″ : List ℕ)
+          → ((w : List ℕ) → matrix-order 128 m left (getD given i 0 ∷ w) ≡ true → Never (later (matrix-order 128 m (unmarked (getD given i 0) left)) w) → Followed m left (getD given i 0 ∷ w) i list′ k list″)
+          → Followed m left (drop i given) i list k list″
+      at-higher z k list″ g =
           let r = found-none f z in
-          rw entry (subst (λ (l : List ℕ). Followed m left (getD given i 0 ∷ drop (i + 1) given) i l k witness″) (r .1) (g (drop (i + 1) given) begun (r .0)))
+          rw entry (subst (λ (l : List ℕ). Followed m left (getD given i 0 ∷ drop (i + 1) given) i l k list″) (r .1) (g (drop (i + 1) given) begun (r .0)))

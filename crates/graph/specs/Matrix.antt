@@ -1,19 +1,17 @@
 -- The graph that a byte matrix and marks stand for, and what the public functions say of it. Vertices are 1..n.
 use mathlib.Core.Path.{_≡_}
-use mathlib.Core.Bool.{Bool}
+use mathlib.Core.Bool.{Bool, true, false}
 use mathlib.Core.List.{List, []}
 use mathlib.Core.Option.{Option, none, some as just}
 use Prim.Native.Nat.{ℕ, suc, _+_, _-_, _*_}
 use lib.ListN.{length, getD}
 use Rattle.words.specs.Tests.{_is_, _upto_, _and_, fails}
 use Rattle.words.specs.Lists.{entries}
-use Rattle.words.specs.First.{Earliest, later}
+use Rattle.words.specs.First.{dictionary, First, Never, later}
 use Rattle.graph.specs.Order.{is-order}
-use Rattle.graph.specs.Shows.{Shown, order, cycle, members, Shows}
-use Rattle.graph.specs.declared.Answer.{Answer}
-use Rattle.graph.specs.declared.Answer.the-variants.{Order, Cycle}
+use Rattle.graph.specs.Shows.{Shows}
+use Rattle.graph.specs.declared.Shown.{Shown}
 use Rattle.graph.specs.declared.Later.{Later}
-use Rattle.graph.specs.declared.Later.the-variants.{Found, Nothing}
 
 -- how many vertices the functions are made for
 abbrev pub vertices : ℕ
@@ -32,30 +30,31 @@ module _ (n : ℕ) (m part : List ℕ) where
   unfoldable pub matrix-order : List ℕ → Bool
   matrix-order w = is-order (suc n) (takes-part n part) joined w
 
--- how the code says what is shown
-unfoldable pub told : Shown → Answer
-told (order w) = Order (length w)
-told (cycle c) = Cycle (length c)
+-- the dictionary-first of the lists that pass, or none where none does
+pub data Earliest (passes : List ℕ → Bool) : Option (List ℕ) → Type 0 where
+  earliest : {w : List ℕ} → First dictionary passes w → Earliest passes (just w)
+  not-any : Never passes → Earliest passes none
 
--- how the code says a later order, or that there is none; and which list is then the witness
-unfoldable pub told-later : Option (List ℕ) → Later
-told-later (just w) = Found (length w)
-told-later none = Nothing
+-- whether there is a list, and which; the empty one stands for none
+unfoldable pub is-some : Option (List ℕ) → Bool
+is-some (just w) = true
+is-some none = false
 
 unfoldable pub later-members : Option (List ℕ) → List ℕ
 later-members (just w) = w
 later-members none = []
 
--- what `sort` answers, and what it leaves in the lent witness
-pub record Sorts (n : ℕ) (m part : List ℕ) (r : Answer) (witness : List ℕ) : Type 0 where
-  pub shown : Shown
-  pub right : Shows (suc n) (takes-part n part) (joined n m part) shown
-  pub answer : r ≡ told shown
-  pub left : witness ≡ entries n (members shown)
+-- what `sort` answers: the list that is shown, its shape, and how many members it has
+pub record Sorts (n : ℕ) (m part : List ℕ) (r : Shown) : Type 0 where
+  pub members : List ℕ
+  pub right : Shows (suc n) (takes-part n part) (joined n m part) (r .shape) members
+  pub listed : r .list ≡ entries n members
+  pub counted : r .count ≡ length members
 
--- what `next` answers after the order v, and what it leaves in the lent witness
-pub record Follows (n : ℕ) (m part v : List ℕ) (r : Later) (witness : List ℕ) : Type 0 where
-  pub found : Option (List ℕ)
-  pub right : Earliest (later (matrix-order n m part) v) found
-  pub answer : r ≡ told-later found
-  pub left : witness ≡ entries n (later-members found)
+-- what `next` answers after the order v: the first later order, or that there is none
+pub record Follows (n : ℕ) (m part v : List ℕ) (r : Later) : Type 0 where
+  pub earliest : Option (List ℕ)
+  pub right : Earliest (later (matrix-order n m part) v) earliest
+  pub told : r .found ≡ is-some earliest
+  pub listed : r .list ≡ entries n (later-members earliest)
+  pub counted : r .count ≡ length (later-members earliest)

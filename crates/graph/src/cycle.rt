@@ -8,7 +8,8 @@ ghost use lib.ListN.{length};
 ghost use Rattle.words.specs.Tests.{_is_, _below_, _and_, some, lowest};
 ghost use Rattle.graph.specs.Cycle.{is-cycle};
 ghost use Rattle.graph.specs.Matrix.{joined};
-ghost use Rattle.graph.specs.Steps.{pick, far, laid, entry, Marked, Near, Least, Cycled};
+ghost use Rattle.graph.specs.Inner.Laying.{laid};
+ghost use Rattle.graph.specs.Inner.Distances.{pick, far, entry, Spread, Near, Least, Cycled};
 use super::left::joins;
 
 // A shortest closed walk: how many vertices it has besides its lowest, and that one.
@@ -18,9 +19,9 @@ struct Ring {
 }
 
 // Puts mark into dist for each vertex that has 128 there and an edge to v.
-fn spread(dist: &mut [usize], m: &[u8], part: &[u8; 128], v: usize, mark: usize)
-    requires { ⌜ (length (now dist) ≡ 128) × (length (now m) ≡ 16384) × (1 ≤ v) × (v ≤ 128) × (mark < 128) ⌝ }
-    ensures { λ _. ⌜ Marked (λ t. joined 128 (now (m .entry)) (now (part .entry)) t v) mark (entry (now (dist .entry))) (entry (now (dist .exit))) ⌝ }
+fn spread(dist: &mut [usize], m: &[u8; 16384], part: &[u8; 128], v: usize, mark: usize)
+    requires { ⌜ (length (now dist) ≡ 128) × (1 ≤ v) × (v ≤ 128) × (mark < 128) ⌝ }
+    ensures { λ _. ⌜ Spread (λ t. joined 128 (now (m .entry)) (now (part .entry)) t v) mark (entry (now (dist .entry))) (entry (now (dist .exit))) ⌝ }
 {
     let mut u: usize = 1;
     while u <= 128 {
@@ -34,9 +35,9 @@ fn spread(dist: &mut [usize], m: &[u8], part: &[u8; 128], v: usize, mark: usize)
 }
 
 // Puts d + 1 into dist for each vertex that has 128 there and an edge to one above s that has d.
-fn layer(dist: &mut [usize], m: &[u8], part: &[u8; 128], s: usize, d: usize)
-    requires { ⌜ (length (now dist) ≡ 128) × (length (now m) ≡ 16384) × (d + 1 < 128) ⌝ }
-    ensures { λ _. ⌜ Marked (λ t. some 129 (λ u. s below u and entry (now (dist .entry)) u is d and joined 128 (now (m .entry)) (now (part .entry)) t u))
+fn layer(dist: &mut [usize], m: &[u8; 16384], part: &[u8; 128], s: usize, d: usize)
+    requires { ⌜ (length (now dist) ≡ 128) × (d + 1 < 128) ⌝ }
+    ensures { λ _. ⌜ Spread (λ t. some 129 (λ u. s below u and entry (now (dist .entry)) u is d and joined 128 (now (m .entry)) (now (part .entry)) t u))
         (d + 1) (entry (now (dist .entry))) (entry (now (dist .exit))) ⌝ }
 {
     let mut u: usize = 1;
@@ -66,8 +67,8 @@ fn reached(dist: &[usize; 128], s: usize, d: usize) -> bool
 }
 
 // How far each vertex is from s, by walks with fewer than limit vertices on the way. A layer that marks nothing is the last.
-fn distances(m: &[u8], part: &[u8; 128], s: usize, limit: usize) -> [usize; 128]
-    requires { ⌜ (length (now m) ≡ 16384) × (1 ≤ s) × (s ≤ 128) × (1 ≤ limit) × (limit ≤ 128) ⌝ }
+fn distances(m: &[u8; 16384], part: &[u8; 128], s: usize, limit: usize) -> [usize; 128]
+    requires { ⌜ (1 ≤ s) × (s ≤ 128) × (1 ≤ limit) × (limit ≤ 128) ⌝ }
     ensures { λ r. ⌜ Near (joined 128 (now (m .entry)) (now (part .entry))) s limit (entry r) ⌝ }
 {
     let mut dist = [128usize; 128];
@@ -84,8 +85,8 @@ fn distances(m: &[u8], part: &[u8; 128], s: usize, limit: usize) -> [usize; 128]
 }
 
 // Whether an edge leads from s to a vertex above it.
-fn rises(m: &[u8], part: &[u8; 128], s: usize) -> bool
-    requires { ⌜ (length (now m) ≡ 16384) × (1 ≤ s) × (s ≤ 128) ⌝ }
+fn rises(m: &[u8; 16384], part: &[u8; 128], s: usize) -> bool
+    requires { ⌜ (1 ≤ s) × (s ≤ 128) ⌝ }
     ensures { λ r. ⌜ r ≡ some 129 (λ u. s below u and joined 128 (now (m .entry)) (now (part .entry)) s u) ⌝ }
 {
     let mut u = s + 1;
@@ -100,8 +101,8 @@ fn rises(m: &[u8], part: &[u8; 128], s: usize) -> bool
 
 // How many vertices the shortest closed walk from s has besides s, of those with fewer than limit; 128 where there is none. A vertex
 // that takes no part is on none, no edge leads from a vertex to itself, and the walk goes through vertices above s.
-fn around(m: &[u8], part: &[u8; 128], s: usize, limit: usize) -> usize
-    requires { ⌜ (length (now m) ≡ 16384) × (1 ≤ s) × (s ≤ 128) × (limit ≤ 128) ⌝ }
+fn around(m: &[u8; 16384], part: &[u8; 128], s: usize, limit: usize) -> usize
+    requires { ⌜ (1 ≤ s) × (s ≤ 128) × (limit ≤ 128) ⌝ }
     ensures { λ r. ⌜ r ≡ far (joined 128 (now (m .entry)) (now (part .entry))) s limit s ⌝ }
 {
     if part[s - 1] == 0 {
@@ -118,8 +119,7 @@ fn around(m: &[u8], part: &[u8; 128], s: usize, limit: usize) -> usize
 }
 
 // The shortest closed walk, and of these the one whose lowest vertex is lowest.
-fn best(m: &[u8], part: &[u8; 128]) -> Ring
-    requires { ⌜ length (now m) ≡ 16384 ⌝ }
+fn best(m: &[u8; 16384], part: &[u8; 128]) -> Ring
     ensures { λ r. ⌜ Least (joined 128 (now (m .entry)) (now (part .entry))) 129 (r .len) (r .start) ⌝ }
 {
     let mut len: usize = 128;
@@ -137,8 +137,15 @@ fn best(m: &[u8], part: &[u8; 128]) -> Ring
 }
 
 // The lowest vertex above s to which an edge leads from a and that has k in dist, or 129 where there is none.
-fn nearer(m: &[u8], part: &[u8; 128], dist: &[usize; 128], s: usize, a: usize, k: usize) -> usize
-    requires { ⌜ (length (now m) ≡ 16384) × (s ≤ 128) × (1 ≤ a) × (a ≤ 128) ⌝ }
+fn nearer(
+    m: &[u8; 16384],
+    part: &[u8; 128],
+    dist: &[usize; 128],
+    s: usize,
+    a: usize,
+    k: usize,
+) -> usize
+    requires { ⌜ (s ≤ 128) × (1 ≤ a) × (a ≤ 128) ⌝ }
     ensures { λ r. ⌜ r ≡ lowest 129 (λ u. s below u and joined 128 (now (m .entry)) (now (part .entry)) a u and entry (now (dist .entry)) u is k) ⌝ }
 {
     let mut u = s + 1;
@@ -154,31 +161,38 @@ fn nearer(m: &[u8], part: &[u8; 128], dist: &[usize; 128], s: usize, a: usize, k
 }
 
 // Lays down, from place 1 on, the lowest closed walk from s with len vertices besides s.
-fn trace(out: &mut [u16], m: &[u8], part: &[u8; 128], dist: &[usize; 128], s: usize, len: usize)
-    requires { ⌜ (length (now out) ≡ 128) × (length (now m) ≡ 16384) × (1 ≤ s) × (s ≤ 128) × (len < 128)
+fn trace(
+    list: &mut [u16; 128],
+    m: &[u8; 16384],
+    part: &[u8; 128],
+    dist: &[usize; 128],
+    s: usize,
+    len: usize,
+)
+    requires { ⌜ (1 ≤ s) × (s ≤ 128) × (len < 128)
         × Near (joined 128 (now m) (now part)) s 128 (entry (now dist)) × (far (joined 128 (now m) (now part)) s 128 s ≡ len) ⌝ }
-    ensures { λ _. ⌜ now (out .exit) ≡ laid 1 (pick (joined 128 (now (m .entry)) (now (part .entry))) s len s) (now (out .entry)) ⌝ }
+    ensures { λ _. ⌜ now (list .exit) ≡ laid 1 (pick (joined 128 (now (m .entry)) (now (part .entry))) s len s) (now (list .entry)) ⌝ }
 {
     let mut a = s;
     let mut k = len;
     while 0 < k {
         k -= 1;
         let v = nearer(m, part, dist, s, a, k);
-        out[len - k] = v as u16;
+        list[len - k] = v as u16;
         a = v;
     }
 }
 
 // Lays down the first shortest cycle, where there is any. How many members it has.
-pub(crate) fn cycle(out: &mut [u16], m: &[u8], part: &[u8; 128]) -> usize
-    requires { ⌜ (length (now out) ≡ 128) × (length (now m) ≡ 16384) × ((c : List ℕ) × (is-cycle (joined 128 (now m) (now part)) c ≡ true)) ⌝ }
-    ensures { λ r. ⌜ Cycled (now (m .entry)) (now (part .entry)) (now (out .entry)) r (now (out .exit)) ⌝ }
+pub(crate) fn cycle(list: &mut [u16; 128], m: &[u8; 16384], part: &[u8; 128]) -> usize
+    requires { ⌜ ((c : List ℕ) × (is-cycle (joined 128 (now m) (now part)) c ≡ true)) ⌝ }
+    ensures { λ r. ⌜ Cycled (now (m .entry)) (now (part .entry)) (now (list .entry)) r (now (list .exit)) ⌝ }
 {
     let ring = best(m, part);
     let len = ring.len;
     let start = ring.start;
     let dist = distances(m, part, start, 128);
-    out[0] = start as u16;
-    trace(out, m, part, &dist, start, len);
+    list[0] = start as u16;
+    trace(list, m, part, &dist, start, len);
     len + 1
 }

@@ -1,14 +1,13 @@
 // What is left of a graph: the vertices whose marks stand, and the edges between them.
 ghost use mathlib.Core.Path.{_≡_};
 ghost use Prim.Native.Nat.{_≤_};
-ghost use lib.ListN.{length};
 ghost use Rattle.words.specs.Tests.{_upto_, _and_, some, lowest};
 ghost use Rattle.graph.specs.Matrix.{takes-part, joined};
-ghost use Rattle.graph.specs.Steps.{may-begin};
+ghost use Rattle.graph.specs.Inner.Peel.{may-begin};
 
 // Whether an edge leads from a to b.
-pub(crate) fn joins(m: &[u8], left: &[u8; 128], a: usize, b: usize) -> bool
-    requires { ⌜ (length (now m) ≡ 16384) × (1 ≤ a) × (a ≤ 128) × (1 ≤ b) × (b ≤ 128) ⌝ }
+pub(crate) fn joins(m: &[u8; 16384], left: &[u8; 128], a: usize, b: usize) -> bool
+    requires { ⌜ (1 ≤ a) × (a ≤ 128) × (1 ≤ b) × (b ≤ 128) ⌝ }
     ensures { λ r. ⌜ r ≡ joined 128 (now (m .entry)) (now (left .entry)) a b ⌝ }
 {
     if a == b {
@@ -24,8 +23,8 @@ pub(crate) fn joins(m: &[u8], left: &[u8; 128], a: usize, b: usize) -> bool
 }
 
 // Whether an edge leads to b.
-fn blocked(m: &[u8], left: &[u8; 128], b: usize) -> bool
-    requires { ⌜ (length (now m) ≡ 16384) × (1 ≤ b) × (b ≤ 128) ⌝ }
+fn blocked(m: &[u8; 16384], left: &[u8; 128], b: usize) -> bool
+    requires { ⌜ (1 ≤ b) × (b ≤ 128) ⌝ }
     ensures { λ r. ⌜ r ≡ some 129 (λ a. joined 128 (now (m .entry)) (now (left .entry)) a b) ⌝ }
 {
     let mut a: usize = 1;
@@ -39,8 +38,7 @@ fn blocked(m: &[u8], left: &[u8; 128], b: usize) -> bool
 }
 
 // Whether an order of what is left may begin with v.
-pub(crate) fn begins(m: &[u8], left: &[u8; 128], v: usize) -> bool
-    requires { ⌜ length (now m) ≡ 16384 ⌝ }
+pub(crate) fn begins(m: &[u8; 16384], left: &[u8; 128], v: usize) -> bool
     ensures { λ r. ⌜ r ≡ may-begin (now (m .entry)) (now (left .entry)) v ⌝ }
 {
     if v == 0 {
@@ -56,8 +54,8 @@ pub(crate) fn begins(m: &[u8], left: &[u8; 128], v: usize) -> bool
 }
 
 // The lowest vertex from start on with which an order of what is left may begin, or 129 where there is none.
-pub(crate) fn lowest_beginning(m: &[u8], left: &[u8; 128], start: usize) -> usize
-    requires { ⌜ (length (now m) ≡ 16384) × (start ≤ 129) ⌝ }
+pub(crate) fn lowest_beginning(m: &[u8; 16384], left: &[u8; 128], start: usize) -> usize
+    requires { ⌜ start ≤ 129 ⌝ }
     ensures { λ r. ⌜ r ≡ lowest 129 (λ v. start upto v and may-begin (now (m .entry)) (now (left .entry)) v) ⌝ }
 {
     let mut v = start;

@@ -8,46 +8,63 @@ mod order;
 pub use order::keeps;
 ghost use mathlib.Core.Path.{_≡_};
 ghost use mathlib.Core.Bool.{true};
-ghost use lib.ListN.{length};
 ghost use Rattle.graph.specs.Matrix.{vertices, matrix-order, Sorts, Follows};
 
-// What `sort` shows: an order of all vertices that take part, or a cycle, and how many entries of the witness it has.
-pub enum Answer {
-    Order(usize),
-    Cycle(usize),
+// What a list that is shown is: an order of all vertices that take part, or a cycle.
+pub enum Shape {
+    Order,
+    Cycle,
 }
 
-// What `next` finds: a later order, and how many entries of the witness it has, or nothing.
-pub enum Later {
-    Found(usize),
-    Nothing,
+// What `sort` shows: its shape, its members with zeros behind them, and how many members it has.
+pub struct Shown {
+    pub shape: Shape,
+    pub list: [u16; 128],
+    pub count: usize,
+}
+
+// What `next` finds: whether there is a later order, its members with zeros behind them, and how many it has. Where there is none, all
+// of it is 0.
+pub struct Later {
+    pub found: bool,
+    pub list: [u16; 128],
+    pub count: usize,
 }
 
 // The first order, or else the first shortest cycle.
-pub fn sort(m: &[u8], part: [u8; 128], out: &mut [u16]) -> Answer
-    requires { ⌜ (length (now m) ≡ 16384) × (length (now out) ≡ 128) ⌝ }
-    ensures { λ r. ⌜ Sorts vertices (now (m .entry)) part r (now (out .exit)) ⌝ }
+pub fn sort(m: &[u8; 16384], part: [u8; 128]) -> Shown
+    ensures { λ r. ⌜ Sorts vertices (now (m .entry)) part r ⌝ }
 {
-    order::clear(out);
-    let p = order::place(out, m, part, 0);
+    let mut list = [0u16; 128];
+    let p = order::lay_down(&mut list, m, part, 0);
     let left = p.left;
     let count = p.count;
     if left::some_left(&left) {
-        order::clear(out);
-        return Answer::Cycle(cycle::cycle(out, m, &part));
+        let mut ring = [0u16; 128];
+        let members = cycle::cycle(&mut ring, m, &part);
+        return Shown {
+            shape: Shape::Cycle,
+            list: ring,
+            count: members,
+        };
     }
-    Answer::Order(count)
+    Shown {
+        shape: Shape::Order,
+        list,
+        count,
+    }
 }
 
 // The first order that comes later than the given one and keeps every edge.
-pub fn next(m: &[u8], part: [u8; 128], given: &[u16], out: &mut [u16]) -> Later
-    requires { ⌜ (length (now m) ≡ 16384) × (length (now out) ≡ 128) × (matrix-order vertices (now m) part (now given) ≡ true) ⌝ }
-    ensures { λ r. ⌜ Follows vertices (now (m .entry)) part (now (given .entry)) r (now (out .exit)) ⌝ }
+pub fn next(m: &[u8; 16384], part: [u8; 128], given: &[u16]) -> Later
+    requires { ⌜ matrix-order vertices (now m) part (now given) ≡ true ⌝ }
+    ensures { λ r. ⌜ Follows vertices (now (m .entry)) part (now (given .entry)) r ⌝ }
 {
-    order::clear(out);
-    let n = onward::follow(out, m, part, given, 0);
-    if n == 0 {
-        return Later::Nothing;
+    let mut later = [0u16; 128];
+    let count = onward::follow(&mut later, m, part, given, 0);
+    Later {
+        found: 0 < count,
+        list: later,
+        count,
     }
-    Later::Found(n)
 }

@@ -7,17 +7,18 @@ ghost use lib.ListN.{length, drop};
 ghost use Rattle.words.specs.Tests.{count};
 ghost use Rattle.words.specs.First.{Never, later};
 ghost use Rattle.graph.specs.Matrix.{vertices, takes-part, matrix-order};
-ghost use Rattle.graph.specs.Steps.{unmarked, Followed};
+ghost use Rattle.graph.specs.Inner.Peel.{unmarked};
+ghost use Rattle.graph.specs.Inner.Laying.{Followed};
 use super::left::lowest_beginning;
-use super::order::place;
+use super::order::lay_down;
 
 // Lays down, from place i on, the lowest vertex above a that may come first, and then the first order of the others. How many entries then
 // stand, or 0 where there is no such vertex.
-fn higher(out: &mut [u16], m: &[u8], left: [u8; 128], i: usize, a: usize) -> usize
-    requires { ⌜ (length (now out) ≡ 128) × (length (now m) ≡ 16384) × (a ≤ 128) × (i + count 129 (takes-part 128 left) ≤ 128) ⌝ }
+fn higher(list: &mut [u16; 128], m: &[u8; 16384], left: [u8; 128], i: usize, a: usize) -> usize
+    requires { ⌜ (a ≤ 128) × (i + count 129 (takes-part 128 left) ≤ 128) ⌝ }
     ensures { λ r. ⌜ ((w : List ℕ) → matrix-order vertices (now (m .entry)) left (a ∷ w) ≡ true
         → Never (later (matrix-order vertices (now (m .entry)) (unmarked a left)) w)
-        → Followed (now (m .entry)) left (a ∷ w) i (now (out .entry)) r (now (out .exit))) ⌝ }
+        → Followed (now (m .entry)) left (a ∷ w) i (now (list .entry)) r (now (list .exit))) ⌝ }
 {
     let b = lowest_beginning(m, &left, a + 1);
     if 128 < b {
@@ -25,17 +26,23 @@ fn higher(out: &mut [u16], m: &[u8], left: [u8; 128], i: usize, a: usize) -> usi
     }
     let mut rest = left;
     rest[b - 1] = 0;
-    out[i] = b as u16;
-    let p = place(out, m, rest, i + 1);
+    list[i] = b as u16;
+    let p = lay_down(list, m, rest, i + 1);
     p.count
 }
 
 // Lays down, from place i on, the first order of what is left that comes later than the given entries from there on. How many entries then
 // stand, or 0 where no order is later.
-pub(crate) fn follow(out: &mut [u16], m: &[u8], left: [u8; 128], given: &[u16], i: usize) -> usize
-    requires { ⌜ (length (now out) ≡ 128) × (length (now m) ≡ 16384) × (length (now given) ≤ 128) × (i ≤ length (now given))
+pub(crate) fn follow(
+    list: &mut [u16; 128],
+    m: &[u8; 16384],
+    left: [u8; 128],
+    given: &[u16],
+    i: usize,
+) -> usize
+    requires { ⌜ (length (now given) ≤ 128) × (i ≤ length (now given))
         × (matrix-order vertices (now m) left (drop i (now given)) ≡ true) ⌝ }
-    ensures { λ r. ⌜ Followed (now (m .entry)) left (drop i (now (given .entry))) i (now (out .entry)) r (now (out .exit)) ⌝ }
+    ensures { λ r. ⌜ Followed (now (m .entry)) left (drop i (now (given .entry))) i (now (list .entry)) r (now (list .exit)) ⌝ }
 {
     if given.len() <= i {
         return 0;
@@ -43,10 +50,10 @@ pub(crate) fn follow(out: &mut [u16], m: &[u8], left: [u8; 128], given: &[u16], 
     let a = given[i] as usize;
     let mut behind = left;
     behind[a - 1] = 0;
-    let n = follow(out, m, behind, given, i + 1);
+    let n = follow(list, m, behind, given, i + 1);
     if 0 < n {
-        out[i] = a as u16;
+        list[i] = a as u16;
         return n;
     }
-    higher(out, m, left, i, a)
+    higher(list, m, left, i, a)
 }

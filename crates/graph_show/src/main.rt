@@ -2,15 +2,9 @@
 
 mod make;
 
-use graph::Answer;
 use graph::Later;
+use graph::Shape;
 use libc::STDOUT_FILENO;
-
-// An order: its entries, and how many there are.
-struct Listed {
-    w: [u16; 128],
-    n: usize,
-}
 
 // Writes the graph's name.
 fn name(number: u64) {
@@ -46,33 +40,39 @@ fn list(w: &[u16; 128], n: usize) {
     io::write_all(STDOUT_FILENO, b"\n");
 }
 
-// Writes the next order after the given one, and leaves it in w. How many entries it has, or 0 where there is none.
-fn after(m: &[u8; 16384], part: [u8; 128], given: &[u16], w: &mut [u16; 128]) -> usize {
+// Writes the next order after the given one, and answers it.
+fn after(m: &[u8; 16384], part: [u8; 128], given: &[u16]) -> Later {
     if !graph::keeps(m, part, given) {
         io::write_all(STDOUT_FILENO, b"not an order\n");
-        return 0;
+        return Later {
+            found: false,
+            list: [0u16; 128],
+            count: 0,
+        };
     }
-    match graph::next(m, part, given, w) {
-        Later::Found(k) => {
-            io::write_all(STDOUT_FILENO, b"next");
-            list(w, k);
-            k
-        }
-        Later::Nothing => {
-            io::write_all(STDOUT_FILENO, b"next none\n");
-            0
-        }
+    let next = graph::next(m, part, given);
+    let found = next.found;
+    let members = next.list;
+    let count = next.count;
+    if found {
+        io::write_all(STDOUT_FILENO, b"next");
+        list(&members, count);
+    } else {
+        io::write_all(STDOUT_FILENO, b"next none\n");
     }
+    next
 }
 
 // The same after the first n entries of given.
-fn later(m: &[u8; 16384], part: [u8; 128], given: [u16; 128], n: usize) -> Listed {
-    let mut w = [0u16; 128];
+fn later(m: &[u8; 16384], part: [u8; 128], given: [u16; 128], n: usize) -> Later {
     if 128 < n {
-        return Listed { w, n: 0 };
+        return Later {
+            found: false,
+            list: [0u16; 128],
+            count: 0,
+        };
     }
-    let k = after(m, part, &given[..n], &mut w);
-    Listed { w, n: k }
+    after(m, part, &given[..n])
 }
 
 // Writes up to four later orders.
@@ -83,9 +83,8 @@ fn nexts(m: &[u8; 16384], part: [u8; 128], first: [u16; 128], n: usize) {
     while i < 4 {
         if 0 < k {
             let more = later(m, part, w, k);
-            let next = more.w;
-            w = next;
-            k = more.n;
+            w = more.list;
+            k = more.count;
         }
         i += 1;
     }
@@ -97,17 +96,20 @@ fn show(m: &mut [u8; 16384], number: u64) {
     let part = marks.part;
     let state = marks.state;
     make::edges(m, number, state);
-    let mut w = [0u16; 128];
     name(number);
-    match graph::sort(m, part, &mut w) {
-        Answer::Order(n) => {
+    let shown = graph::sort(m, part);
+    let shape = shown.shape;
+    let members = shown.list;
+    let count = shown.count;
+    match shape {
+        Shape::Order => {
             io::write_all(STDOUT_FILENO, b" order");
-            list(&w, n);
-            nexts(m, part, w, n);
+            list(&members, count);
+            nexts(m, part, members, count);
         }
-        Answer::Cycle(n) => {
+        Shape::Cycle => {
             io::write_all(STDOUT_FILENO, b" cycle");
-            list(&w, n);
+            list(&members, count);
         }
     }
 }

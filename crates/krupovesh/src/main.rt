@@ -2,20 +2,15 @@
 use input::read_input;
 use input::read_named;
 use libc::STDOUT_FILENO;
-use text::ReportAnswer;
 use text::Text;
+use text::TextAnswer;
 use text::report;
-use verdict::Log;
-use verdict::Transaction;
 
 // Prints the report of a text.
 fn print_report(text: &[u8]) {
-    let mut steps = [0u16; 4 * Log::LIMIT];
-    let mut work = [0u8; Log::WORK];
-    let mut witness = [0u16; Transaction::COUNT];
     let mut out = [0u8; Text::REPORT];
-    let answer = report(text, &mut steps, &mut work, &mut witness, &mut out);
-    if let ReportAnswer::Length(n) = answer {
+    let answer = report(text, &mut out);
+    if let TextAnswer::Accepted(n) = answer {
         io::write_all(STDOUT_FILENO, &out[..n]);
     }
 }

@@ -3,17 +3,19 @@
 use input::read_input;
 use input::read_named;
 use libc::STDOUT_FILENO;
-use text::ReadAnswer;
 use text::Text;
+use text::TextAnswer;
 use text::read;
-use verdict::Answer;
 use verdict::Log;
 use verdict::Transaction;
+use verdict::answers::Answer;
+use verdict::answers::WitnessAnswer;
 use verdict::next;
 use verdict::version;
 ghost use mathlib.Core.Path.{_≡_};
 ghost use mathlib.Core.Bool.{true};
 ghost use Prim.Native.Nat.{_<_};
+ghost use Rattle.verdict.specs.Next.{up-to-zero};
 ghost use Rattle.verdict.proofs.Listing.{to-come};
 
 // An order as "next" takes it, and whether it was brought.
@@ -50,14 +52,16 @@ fn print_order(order: &[u16]) {
 
 // Brings the order after the one given, and prints it.
 fn bring(log: &[u16], given: [u16; Transaction::COUNT]) -> Brought
-    ensures { λ r. ⌜ (r .more ≡ true → to-come (now (log .entry)) (r .order) < to-come (now (log .entry)) given) ⌝ }
+    ensures { λ r. ⌜ (r .more ≡ true → to-come (now (log .entry)) (up-to-zero (r .order)) < to-come (now (log .entry)) (up-to-zero given)) ⌝ }
 {
     let mut work = [0u8; Log::WORK];
     let mut order = [0u16; Transaction::COUNT];
     let answer = next(log, &given, &mut work, &mut order);
-    if let Answer::Order(n) = answer {
-        print_order(&order[..n]);
-        return Brought { order, more: true };
+    if let WitnessAnswer::Judged(judged) = answer {
+        if let Answer::Order(n) = judged {
+            print_order(&order[..n]);
+            return Brought { order, more: true };
+        }
     }
     Brought { order, more: false }
 }
@@ -79,15 +83,16 @@ fn print_listing(log: &[u16]) {
     let mut work = [0u8; Log::WORK];
     let mut witness = [0u16; Transaction::COUNT];
     let answer = version(log, &mut work, &mut witness);
-    if let Answer::Refused(number, place) = answer {
-        print_refused(number, place);
-        return;
+    match answer {
+        WitnessAnswer::Refused(number, place) => print_refused(number, place),
+        WitnessAnswer::Judged(judged) => {
+            if let Answer::Order(n) = judged {
+                print_order(&witness[..n]);
+                print_later(log, witness);
+            }
+            io::write_all(STDOUT_FILENO, b"none\n");
+        }
     }
-    if let Answer::Order(n) = answer {
-        print_order(&witness[..n]);
-        print_later(log, witness);
-    }
-    io::write_all(STDOUT_FILENO, b"none\n");
 }
 
 // Prints every order that explains the log of a text.
@@ -95,8 +100,8 @@ fn print_orders(text: &[u8]) {
     let mut steps = [0u16; 4 * Log::LIMIT];
     let answer = read(text, &mut steps);
     match answer {
-        ReadAnswer::Refused(number, place) => print_refused(number, place),
-        ReadAnswer::Steps(n) => {
+        TextAnswer::Refused(number, place) => print_refused(number, place),
+        TextAnswer::Accepted(n) => {
             let end = 4 * n;
             print_listing(&steps[..end])
         }

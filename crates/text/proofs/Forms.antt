@@ -2,14 +2,14 @@
 use mathlib.Core.Path.{_≡_, refl, sym, ap, subst, _∙_}
 use mathlib.Core.Bool.{Bool, true, false}
 use mathlib.Core.List.{List, [], _∷_, _++_, append-assoc}
-use Prim.Native.Nat.{ℕ, _+_}
+use Prim.Native.Nat.{ℕ}
 use Rattle.words.specs.Tests.{_upto_, _and_}
 use Rattle.words.proofs.Truth.{not-both, and→, →and}
 use Rattle.text.specs.Bytes.{bytes, blank, line-end}
 use Rattle.text.specs.Decimal.{decimal}
 use Rattle.text.specs.Line.{item, op, line, sayable, has-word, sayable-step}
 use Rattle.text.specs.Reading.{NoLine}
-use Rattle.text.specs.Finds.{is-digit, Finds}
+use Rattle.text.specs.Inner.Finds.{is-digit, Finds}
 use Rattle.text.specs.declared.number.Number.{Number}
 use Rattle.text.specs.declared.number.Number.the-variants.{At, Bad}
 use Rattle.text.proofs.Spelling.{Beyond, the-same, longer, decimal-beyond}

@@ -11,7 +11,7 @@ use Rattle.words.specs.Tests.{_is_, _and_}
 use Rattle.words.proofs.Truth.{not-both, and→, →and, →is, is→, →isnt, and-no-left, upto→, →upto}
 use Rattle.text.specs.Decimal.{digit, decimal}
 use Rattle.text.specs.Line.{sayable, largest}
-use Rattle.text.specs.Finds.{starts, is-digit}
+use Rattle.text.specs.Inner.Finds.{starts, is-digit}
 use Rattle.text.proofs.Spelling.{is-digit→, decimal-digit, decimal-more, decimal-leads, Beyond, the-same, longer, decimal-beyond}
 
 pub sayable→ : (n : ℕ) → sayable n ≡ true → n ≤ largest

@@ -8,7 +8,7 @@ use lib.ListN.{length, drop, length-append, length-drop}
 use lib.Seq.{drop-drop}
 use Rattle.words.proofs.Truth.{not-both}
 use Rattle.text.specs.Line.{item}
-use Rattle.text.specs.Finds.{starts, Finds}
+use Rattle.text.specs.Inner.Finds.{starts, Finds}
 use Rattle.text.specs.declared.number.Number.{Number}
 use Rattle.text.specs.declared.number.Number.the-variants.{At, Bad}
 use Rattle.text.proofs.Fronts.{starts→, →starts}

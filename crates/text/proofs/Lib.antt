@@ -11,7 +11,7 @@ pub mod Clears
 pub mod Only
 pub mod Calls
 pub mod WasRead
-pub mod Heards
+pub mod Tells
 pub mod Room
 pub mod ReportOnly
 pub mod ReportCalls

@@ -9,15 +9,16 @@ use lib.ListN.{length}
 use Rattle.words.specs.Lists.{entries}
 use Rattle.verdict.specs.Limits.{most-steps}
 use Rattle.verdict.specs.Log.{steps}
-use Rattle.verdict.specs.Refusal.{Refusal, taken, refused}
+use Rattle.verdict.specs.declared.answers.Checked.{Checked}
+use Rattle.verdict.specs.declared.answers.Checked.the-variants.{Passed, Refused}
 use Rattle.verdict.specs.Call.{answered}
 use Rattle.verdict.proofs.Only.{buffer-one, call-one}
 use Rattle.text.specs.Line.{header, sayable, largest}
 use Rattle.text.specs.Text.{lines, text-of, Steps}
 use Rattle.text.specs.Reading.{NoHeader, NoLine, Says, Reading, no-header, too-many, bad-line, extra, in-form}
 use Rattle.text.specs.ReadCall.{most-bytes, step-entries, ReadRefusal, wrong-buffer, too-long, by-line, said-steps, leaves-steps, ReadCall}
-use Rattle.text.specs.declared.ReadAnswer.{ReadAnswer}
-use Rattle.text.specs.declared.ReadAnswer.the-variants as read-answer
+use Rattle.text.specs.declared.TextAnswer.{TextAnswer}
+use Rattle.text.specs.declared.TextAnswer.the-variants as text-answer
 use Rattle.text.proofs.Fronts.{→sayable}
 use Rattle.text.proofs.Runs.{steps-length}
 use Rattle.text.proofs.Compare.{header-free, no-line, Compared, agree, less, more, compare}
@@ -49,18 +50,18 @@ says-one a b =
 
 -- THE REFUSAL OF A TEXT
 -- where the lines stop, with i of n in form and `rest` behind them
-data Stops (n i : ℕ) (rest : List ℕ) : Refusal → Type 0 where
-  short : i < n → NoLine rest → Stops n i rest (refused 16 (suc i))
-  long : (b : ℕ) (y : List ℕ) → i ≡ n → rest ≡ b ∷ y → Stops n i rest (refused 16 (suc n))
-  full : i ≡ n → rest ≡ [] → Stops n i rest taken
+data Stops (n i : ℕ) (rest : List ℕ) : Checked → Type 0 where
+  short : i < n → NoLine rest → Stops n i rest (Refused 16 (suc i))
+  long : (b : ℕ) (y : List ℕ) → i ≡ n → rest ≡ b ∷ y → Stops n i rest (Refused 16 (suc n))
+  full : i ≡ n → rest ≡ [] → Stops n i rest Passed
 
 -- a reading by its header
-data ByHeader (text : List ℕ) : Refusal → Type 0 where
-  none : NoHeader text → ByHeader text (refused 16 0)
-  large : (n : ℕ) (rest : List ℕ) → sayable n ≡ true → most-steps < n → text ≡ header n ++ rest → ByHeader text (refused 2 0)
-  fine : (n i : ℕ) (log rest : List ℕ) {f : Refusal} → n ≤ most-steps → Steps i log → text ≡ header n ++ (lines i log ++ rest) → Stops n i rest f → ByHeader text f
+data ByHeader (text : List ℕ) : Checked → Type 0 where
+  none : NoHeader text → ByHeader text (Refused 16 0)
+  large : (n : ℕ) (rest : List ℕ) → sayable n ≡ true → most-steps < n → text ≡ header n ++ rest → ByHeader text (Refused 2 0)
+  fine : (n i : ℕ) (log rest : List ℕ) {f : Checked} → n ≤ most-steps → Steps i log → text ≡ header n ++ (lines i log ++ rest) → Stops n i rest f → ByHeader text f
 
-by-header : {text : List ℕ} {f : Refusal} → Reading text f → ByHeader text f
+by-header : {text : List ℕ} {f : Checked} → Reading text f → ByHeader text f
 by-header (no-header h) = none h
 by-header (too-many n rest s h e) = large n rest s h e
 by-header (bad-line n i log rest p h s e f) = fine n i log rest p s (e ∙ append-assoc (header n) (lines i log) rest) (short h f)
@@ -69,13 +70,13 @@ by-header (in-form log s) =
     fine (s .n) (s .n) log [] (s .few) (s .each) (s .whole ∙ text-parts (s .each) ∙ ap (λ (u : List ℕ). header (s .n) ++ u) (sym (append-nil (lines (s .n) log)))) (full refl refl)
 
 -- no more lines are read than the header says
-beyond : {n i j : ℕ} {rest : List ℕ} {f : Refusal} → i < j → i ≡ n → Stops n j rest f → ⊥
+beyond : {n i j : ℕ} {rest : List ℕ} {f : Checked} → i < j → i ≡ n → Stops n j rest f → ⊥
 beyond p a (short b c) = omega arith
 beyond p a (long y z b c) = omega arith
 beyond p a (full b c) = omega arith
 
-stops-one : {n i j : ℕ} {log log′ rest rest′ : List ℕ} {f g : Refusal} → Compared i j log log′ rest rest′ → Stops n i rest f → Stops n j rest′ g → f ≡ g
-stops-one (agree p q r) (short a b) (short c d) = ap (λ (k : ℕ). refused 16 (suc k)) p
+stops-one : {n i j : ℕ} {log log′ rest rest′ : List ℕ} {f g : Checked} → Compared i j log log′ rest rest′ → Stops n i rest f → Stops n j rest′ g → f ≡ g
+stops-one (agree p q r) (short a b) (short c d) = ap (λ (k : ℕ). Refused 16 (suc k)) p
 stops-one (agree p q r) (short a b) (long y z c d) = absurd (omega arith)
 stops-one (agree p q r) (short a b) (full c d) = absurd (omega arith)
 stops-one (agree p q r) (long y z a b) (short c d) = absurd (omega arith)
@@ -97,7 +98,7 @@ one-header {n} {m} x y p q a b = header-free n m x y p q (sym a ∙ b)
 few-sayable : (n : ℕ) → n ≤ most-steps → sayable n ≡ true
 few-sayable n h = →sayable n (omega arith)
 
-by-header-one : {text : List ℕ} {f g : Refusal} → ByHeader text f → ByHeader text g → f ≡ g
+by-header-one : {text : List ℕ} {f g : Checked} → ByHeader text f → ByHeader text g → f ≡ g
 by-header-one (none a) (none b) = refl
 by-header-one (none a) (large n x p h e) = absurd (a n x p e)
 by-header-one (none a) (fine n i log x p s e t) = absurd (a n _ (few-sayable n p) e)
@@ -111,10 +112,10 @@ by-header-one (fine n i log x p s e t) (fine m j log′ y {f = g} q u d v) =
     stops-one (compare x y s u (h .1)) t (subst (λ (k : ℕ). Stops k j y g) (sym (h .0)) v)
 
 -- a text gets one refusal, or none
-pub reading-one : {text : List ℕ} {f g : Refusal} → Reading text f → Reading text g → f ≡ g
+pub reading-one : {text : List ℕ} {f g : Checked} → Reading text f → Reading text g → f ≡ g
 reading-one a b = by-header-one (by-header a) (by-header b)
 
-pub read-refusal-one : {text buffer : List ℕ} {f g : Refusal} → ReadRefusal text buffer f → ReadRefusal text buffer g → f ≡ g
+pub read-refusal-one : {text buffer : List ℕ} {f g : Checked} → ReadRefusal text buffer f → ReadRefusal text buffer g → f ≡ g
 read-refusal-one (wrong-buffer a) (wrong-buffer b) = refl
 read-refusal-one (wrong-buffer a) (too-long b c) = absurd (a b)
 read-refusal-one (wrong-buffer a) (by-line b c d) = absurd (a b)
@@ -127,7 +128,7 @@ read-refusal-one (by-line b c d) (by-line b′ c′ d′) = reading-one d d′
 
 -- A CALL
 -- any two results of one call of `read` are equal, the answer and every entry of the step buffer
-pub read-call-one : {text buffer : List ℕ} {r s : ReadAnswer} {v w : List ℕ} → ReadCall text buffer r v → ReadCall text buffer s w → (r ≡ s) × (v ≡ w)
+pub read-call-one : {text buffer : List ℕ} {r s : TextAnswer} {v w : List ℕ} → ReadCall text buffer r v → ReadCall text buffer s w → (r ≡ s) × (v ≡ w)
 read-call-one p q =
     let e = call-one (λ f g h k. read-refusal-one h k) (λ a b h k. says-one h k) p q in
     (e .0, buffer-one (e .1))
@@ -137,12 +138,12 @@ module _ {n : ℕ} {log : List ℕ} (each : Steps n log) (few : n ≤ most-steps
   text-says : Says (text-of log) log
   text-says = record { n = n; few = few; each = each; whole = refl }
 
-  pub reads-back : Reading (text-of log) taken
+  pub reads-back : Reading (text-of log) Passed
   reads-back = in-form log text-says
 
-  pub read-back : {buffer : List ℕ} {r : ReadAnswer} {v : List ℕ} → length (text-of log) ≤ most-bytes → length buffer ≡ step-entries
-      → ReadCall (text-of log) buffer r v → (r ≡ read-answer.Steps n) × (v ≡ entries step-entries log)
+  pub read-back : {buffer : List ℕ} {r : TextAnswer} {v : List ℕ} → length (text-of log) ≤ most-bytes → length buffer ≡ step-entries
+      → ReadCall (text-of log) buffer r v → (r ≡ text-answer.Accepted n) × (v ≡ entries step-entries log)
   unfolding said-steps leaves-steps
   read-back {buffer} fits size c =
       let e = read-call-one c (answered log (by-line size fits reads-back) text-says refl refl) in
-      (e .0 ∙ ap read-answer.Steps (steps-count each), e .1)
+      (e .0 ∙ ap text-answer.Accepted (steps-count each), e .1)

@@ -7,7 +7,8 @@ use native.Mathlib.Numerals.{add-one}
 use lib.ListN.{length, getD, take, drop, set, length-append, length-drop, take-append-drop}
 use lib.Seq.{length-take-le, take-all, take-suc, take-at, drop-at, drop-drop, drop-cons, set-split, set-at}
 use Rattle.text.specs.Decimal.{digit, decimal}
-use Rattle.text.specs.Put.{put-at, Fits, Puts}
+use Rattle.text.specs.Line.{item}
+use Rattle.text.specs.Inner.Put.{put-at, Fits, Puts}
 use Rattle.text.specs.ReportLine.{numbers}
 use Rattle.text.proofs.Spelling.{decimal-digit, decimal-more}
 
@@ -63,6 +64,31 @@ module _ (v w l : List ℕ) (at : ℕ) (fits : Fits (v ++ w) at l) where
         sym (drop-drop (length w) m (front ++ drop m l)) ∙ ap (drop (length w)) (drop-at front (drop m l) m n) ∙ drop-drop (length w) m l
         in
         (second .0 ∙ ap (λ (k : ℕ). k + length w) (put .0) ∙ sym p, second .1 ∙ rw (put .0, put .1, q, r, p) (simp append-assoc))
+
+-- a key, its value, and the byte behind them
+module _ (key v : List ℕ) (behind : ℕ) (l : List ℕ) (at : ℕ) (fits : Fits (item key v behind) at l) where
+  front-fits : Fits (key ++ v) at l
+  unfolding item
+  front-fits = first-fits (key ++ v) (behind ∷ []) l at fits
+
+  pub key-fits : Fits key at l
+  key-fits = first-fits key v l at front-fits
+
+  module _ {next : ℕ} {l′ : List ℕ} (put : Puts key at l next l′) where
+    pub value-fits : Fits v next l′
+    value-fits = then-fits key v l at front-fits put
+
+    module _ {next₂ : ℕ} {l₂ : List ℕ} (put₂ : Puts v next l′ next₂ l₂) where
+      front-put : Puts (key ++ v) at l next₂ l₂
+      front-put = both-put key v l at front-fits put put₂
+
+      pub behind-fits : Fits (behind ∷ []) next₂ l₂
+      unfolding item
+      behind-fits = then-fits (key ++ v) (behind ∷ []) l at fits front-put
+
+      pub item-put : {end : ℕ} {l₃ : List ℕ} → Puts (behind ∷ []) next₂ l₂ end l₃ → Puts (item key v behind) at l end l₃
+      unfolding item
+      item-put = both-put (key ++ v) (behind ∷ []) l at fits front-put
 
 -- four words
 module _ (a b c d l : List ℕ) (at : ℕ) (fits : Fits (a ++ b ++ c ++ d) at l) where

@@ -3,34 +3,36 @@ use mathlib.Core.Path.{_≡_, refl, ap, _∙_}
 use mathlib.Core.Bool.{true, false}
 use mathlib.Core.List.{List, [], _∷_, _++_}
 use mathlib.Core.Logic.{_⊎_, inl, inr}
-use mathlib.Core.Option.{Option, none, some as just}
 use Prim.Native.Nat.{ℕ, suc, _+_, _*_, _/_, _≤_, _<_}
 use native.Mathlib.Omega.{arith}
 use lib.ListN.{length, length-append}
 use Rattle.words.specs.Tests.{_below_}
 use Rattle.words.specs.Lists.{member}
-use Rattle.graph.specs.Shows.{order, cycle}
 use Rattle.words.proofs.Truth.{decide, below→, not-below→}
 use Rattle.words.proofs.Places.{member-head, member-tail}
 use Rattle.verdict.specs.Limits.{transactions, most-steps}
 use Rattle.verdict.specs.Log.{steps, committed-count}
-use Rattle.verdict.specs.Refusal.{taken, refused, log-refusal}
-use Rattle.verdict.specs.Clean.{Fault, aborted-at, unfinal-at, Cleanness, clean, unclean, cleanness}
-use Rattle.verdict.specs.Snapshot.{Snapshot, snapshot, read-at, write-at-with, snapshot-verdict}
-use Rattle.verdict.specs.Answer.{Answer, shown, unclean-by}
-use Rattle.verdict.specs.Conflict.{conflict}
-use Rattle.verdict.specs.Version.{version}
-use Rattle.verdict.specs.Exact.{exact}
-use Rattle.verdict.proofs.Bounds.{Within, within-when, log-within, FaultUpto, aborted-upto, unfinal-upto, SnapshotUpto, snapshot-fine, read-upto, write-upto, MembersUpto, AnswerUpto, order-upto, cycle-upto, none-fine, unclean-upto, few-steps, few-committed, fault-few, snapshot-few, conflict-few, version-few, exact-few}
+use Rattle.verdict.specs.Refusal.{log-refusal}
+use Rattle.verdict.specs.Clean.{fault-step, cleanness}
+use Rattle.verdict.specs.Snapshot.{snapshot-verdict}
+use Rattle.verdict.specs.Outcome.{Outcome, order, cycle, none, unclean}
+use Rattle.verdict.specs.declared.answers.Checked.the-variants.{Passed, Refused}
+use Rattle.verdict.specs.declared.answers.Fault.{Fault}
+use Rattle.verdict.specs.declared.answers.Fault.the-variants.{Aborted, Unfinal}
+use Rattle.verdict.specs.declared.answers.Cleanness.{Cleanness}
+use Rattle.verdict.specs.declared.answers.Cleanness.the-variants as cleanness-is
+use Rattle.verdict.specs.declared.answers.Snapshot.{Snapshot}
+use Rattle.verdict.specs.declared.answers.Snapshot.the-variants as snapshot-is
+use Rattle.verdict.proofs.Bounds.{Within, within-when, log-within, FaultUpto, aborted-upto, unfinal-upto, SnapshotUpto, snapshot-fine, read-upto, write-upto, MembersUpto, OutcomeUpto, order-upto, cycle-upto, none-fine, unclean-upto, few-steps, few-committed, fault-few, snapshot-few, conflict-few, version-few, exact-few}
 use Rattle.text.specs.Bytes.{bytes, blank, line-end}
 use Rattle.text.specs.Decimal.{decimal}
 use Rattle.text.specs.Line.{item, header}
 use Rattle.text.specs.Reading.{Says, Reading, no-header, too-many, bad-line, extra}
 use Rattle.text.specs.ReadCall.{ReadRefusal, wrong-buffer, too-long, by-line}
-use Rattle.text.specs.ReportLine.{refused-line, committed-line, clean-line, snapshot-line, numbers, fault-step, value, answer-line}
-use Rattle.text.specs.Report.{ConflictLine, conflict-line, VersionLine, version-line, ExactLine, over-line, exact-line, first-lines, LogReport, log-refused, judged, ReportOf, text-too-long, text-refused, text-read}
-use Rattle.text.specs.Put.{most-long, most-short}
-use Rattle.text.specs.ReportCall.{report-bytes, buffers-refusal}
+use Rattle.text.specs.ReportLine.{refused-line, committed-line, clean-line, snapshot-line, numbers, value, outcome-line, over-line}
+use Rattle.text.specs.Report.{ConflictLine, conflict-line, VersionLine, version-line, ExactLine, exact-over, exact-line, first-lines, LogReport, log-refused, judged, ReportOf, text-too-long, text-refused, text-read}
+use Rattle.text.specs.Inner.Put.{most-long, most-short}
+use Rattle.text.specs.ReportCall.{report-bytes, report-refusal}
 use Rattle.text.proofs.Puts.{one-length, last-length}
 use Rattle.text.proofs.Only.{steps-count}
 
@@ -92,44 +94,44 @@ numbers-length (t ∷ w) f =
 abbrev most-value : ℕ
 most-value = 521
 
-answer-length : (key : List ℕ) (a : Option Answer) → length key ≤ 9 → length (value a) ≤ most-value → length (answer-line key a) ≤ most-long
-unfolding answer-line
-answer-length key a h k = omega (arith, item-length key (value a) line-end)
+outcome-length : (key : List ℕ) (a : Outcome) → length key ≤ 9 → length (value a) ≤ most-value → length (outcome-line key a) ≤ most-long
+unfolding outcome-line
+outcome-length key a h k = omega (arith, item-length key (value a) line-end)
 
 -- the step of a fault, in the lines that tell it
-fault-length : (f : Fault) → FaultUpto most-steps f → length (clean-line (unclean f)) ≤ most-short
+fault-length : (f : Fault) → FaultUpto most-steps f → length (clean-line (cleanness-is.Unclean f)) ≤ most-short
 unfolding clean-line bytes
-fault-length (aborted-at k) (aborted-upto h) = omega (arith, number-item (bytes "clean=aborted at ") line-end k (omega arith))
-fault-length (unfinal-at k) (unfinal-upto h) = omega (arith, number-item (bytes "clean=unfinal at ") line-end k (omega arith))
+fault-length (Aborted k) (aborted-upto h) = omega (arith, number-item (bytes "clean=aborted at ") line-end k (omega arith))
+fault-length (Unfinal k) (unfinal-upto h) = omega (arith, number-item (bytes "clean=unfinal at ") line-end k (omega arith))
 
-unclean-length : (f : Fault) → FaultUpto most-steps f → length (value (just (unclean-by f))) ≤ most-value
+unclean-length : (f : Fault) → FaultUpto most-steps f → length (value (unclean f)) ≤ most-value
 unfolding value bytes fault-step
-unclean-length (aborted-at k) (aborted-upto h) = omega (arith, four-digits k (omega arith))
-unclean-length (unfinal-at k) (unfinal-upto h) = omega (arith, four-digits k (omega arith))
+unclean-length (Aborted k) (aborted-upto h) = omega (arith, four-digits k (omega arith))
+unclean-length (Unfinal k) (unfinal-upto h) = omega (arith, four-digits k (omega arith))
 
 members-length : (w : List ℕ) → MembersUpto transactions w → length (numbers w) ≤ 4 * transactions
 members-length w h = omega (arith, numbers-length w (λ t m. omega (arith, h .each t m)), h .few)
 
-value-length : (a : Answer) → AnswerUpto most-steps transactions a → length (value (just a)) ≤ most-value
+value-length : (a : Outcome) → OutcomeUpto most-steps transactions a → length (value a) ≤ most-value
 unfolding value bytes
-value-length (shown (order w)) (order-upto h) = omega (arith, members-length w h)
-value-length (shown (cycle c)) (cycle-upto h) = omega (arith, members-length c h)
-value-length Answer.none none-fine = omega arith
-value-length (unclean-by f) (unclean-upto h) = unclean-length f h
+value-length (order w) (order-upto h) = omega (arith, members-length w h)
+value-length (cycle c) (cycle-upto h) = omega (arith, members-length c h)
+value-length none none-fine = omega arith
+value-length (unclean f) (unclean-upto h) = unclean-length f h
 
-module _ (log : List ℕ) (well : log-refusal log ≡ taken) where
+module _ (log : List ℕ) (well : log-refusal log ≡ Passed) where
   pub conflict-fits : {w : List ℕ} → ConflictLine log w → length w ≤ most-long
   unfolding bytes
-  conflict-fits (conflict-line {a} h) = answer-length (bytes "conflict=") (just a) (omega arith) (value-length a (conflict-few log well h))
+  conflict-fits (conflict-line {a} h) = outcome-length (bytes "conflict=") a (omega arith) (value-length a (conflict-few log well h))
 
   pub version-fits : {w : List ℕ} → VersionLine log w → length w ≤ most-long
   unfolding bytes
-  version-fits (version-line {a} h) = answer-length (bytes "version=") (just a) (omega arith) (value-length a (version-few log well h))
+  version-fits (version-line {a} h) = outcome-length (bytes "version=") a (omega arith) (value-length a (version-few log well h))
 
   pub exact-fits : {w : List ℕ} → ExactLine log w → length w ≤ most-long
-  unfolding value bytes
-  exact-fits (over-line n e) = answer-length (bytes "exact=") none (omega arith) (omega arith)
-  exact-fits (exact-line {a} e h) = answer-length (bytes "exact=") (just a) (omega arith) (value-length a (exact-few log well h))
+  unfolding over-line bytes
+  exact-fits (exact-over n e) = omega arith
+  exact-fits (exact-line {a} e h) = outcome-length (bytes "exact=") a (omega arith) (value-length a (exact-few log well h))
 
   -- THE LINES BEFORE THEM
   pub steps-fits : length (header (steps log)) ≤ most-short
@@ -142,18 +144,18 @@ module _ (log : List ℕ) (well : log-refusal log ≡ taken) where
   unfolding clean-line bytes
   clean-fits = go (cleanness log) (λ f e. fault-few log well {f = f} e)
     where
-      go : (c : Cleanness) → ((f : Fault) → c ≡ unclean f → FaultUpto most-steps f) → length (clean-line c) ≤ most-short
-      go clean h = omega arith
-      go (unclean f) h = fault-length f (h f refl)
+      go : (c : Cleanness) → ((f : Fault) → c ≡ cleanness-is.Unclean f → FaultUpto most-steps f) → length (clean-line c) ≤ most-short
+      go cleanness-is.Yes h = omega arith
+      go (cleanness-is.Unclean f) h = fault-length f (h f refl)
 
   pub snapshot-fits : length (snapshot-line (snapshot-verdict transactions log)) ≤ most-short
   unfolding snapshot-line bytes
   snapshot-fits = go (snapshot-verdict transactions log) (snapshot-few log well)
     where
       go : (s : Snapshot) → SnapshotUpto most-steps (suc transactions) s → length (snapshot-line s) ≤ most-short
-      go snapshot snapshot-fine = omega arith
-      go (read-at k) (read-upto h) = omega (arith, number-item (bytes "snapshot=read at ") line-end k (omega arith))
-      go (write-at-with k t) (write-upto h i) =
+      go snapshot-is.Yes snapshot-fine = omega arith
+      go (snapshot-is.Read k) (read-upto h) = omega (arith, number-item (bytes "snapshot=read at ") line-end k (omega arith))
+      go (snapshot-is.Write k t) (write-upto h i) =
           omega (
             arith,
             length-append (item (bytes "snapshot=write at ") (decimal k) blank) (item (bytes "with ") (decimal t) line-end),
@@ -172,20 +174,20 @@ module _ (log : List ℕ) (well : log-refusal log ≡ taken) where
 
 -- REFUSALS
 -- the numbers and places that a text's refusal may have
-pub reading-within : {text : List ℕ} {n p : ℕ} → Reading text (refused n p) → (n < 10000) × (p < 10000)
+pub reading-within : {text : List ℕ} {n p : ℕ} → Reading text (Refused n p) → (n < 10000) × (p < 10000)
 reading-within (no-header h) = (omega arith, omega arith)
 reading-within (too-many n rest s h e) = (omega arith, omega arith)
 reading-within (bad-line n i log rest h k s e f) = (omega arith, omega arith)
 reading-within (extra n b log rest h s e) = (omega arith, omega arith)
 
-pub read-within : {text buffer : List ℕ} {n p : ℕ} → ReadRefusal text buffer (refused n p) → (n < 10000) × (p < 10000)
+pub read-within : {text buffer : List ℕ} {n p : ℕ} → ReadRefusal text buffer (Refused n p) → (n < 10000) × (p < 10000)
 read-within (wrong-buffer h) = (omega arith, omega arith)
 read-within (too-long h k) = (omega arith, omega arith)
 read-within (by-line h k r) = reading-within r
 
-pub buffers-within : (steps work witness out : List ℕ) → Within (buffers-refusal steps work witness out)
-unfolding buffers-refusal
-buffers-within steps work witness out = within-when 12 0 _ (omega arith) (omega arith)
+pub report-within : (out : List ℕ) → Within (report-refusal out)
+unfolding report-refusal
+report-within out = within-when 12 0 _ (omega arith) (omega arith)
 
 -- the steps of a text
 pub says-few : {text log : List ℕ} → Says text log → steps log ≤ most-steps

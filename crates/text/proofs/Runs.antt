@@ -9,8 +9,8 @@ use lib.ListN.{length, drop, length-append}
 use lib.Seq.{take-at, drop-append-add, drop-drop}
 use Rattle.text.specs.Line.{line, sayable-step}
 use Rattle.text.specs.Text.{lines, Steps, no-step, a-step}
-use Rattle.text.specs.Put.{put-at}
-use Rattle.text.specs.Finds.{FindsLine, kept, Passes}
+use Rattle.text.specs.Inner.Put.{put-at}
+use Rattle.text.specs.Inner.Finds.{FindsLine, kept, Passes}
 use Rattle.text.specs.declared.line.Line.the-variants.{At}
 use Rattle.text.specs.declared.line.Lines.the-variants.{To}
 use Rattle.verdict.specs.Log.{kind, tx, obj, src}

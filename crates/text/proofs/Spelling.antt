@@ -5,11 +5,11 @@ use mathlib.Core.List.{List, [], _∷_, _++_}
 use mathlib.Core.Logic.{_⊎_, inl, inr, ⊎-elim}
 use Prim.Native.Nat.{ℕ, zero, suc, _+_, _-_, _*_, _/_, _%_, _≤_, _<_}
 use native.Mathlib.Omega.{arith}
-use Rattle.words.specs.Tests.{_below_, _upto_, _and_}
+use Rattle.words.specs.Tests.{_below_}
 use Rattle.words.specs.Lists.{all}
 use Rattle.words.proofs.Truth.{decide, not-both, and→, →and, below→, →below, not-below→, upto→, →upto, if-true, if-false}
 use Rattle.text.specs.Decimal.{digit, digits, decimal}
-use Rattle.text.specs.Finds.{is-digit}
+use Rattle.text.specs.Inner.Finds.{is-digit}
 
 -- w spells n: one digit alone, or a spelled number above 0 and one digit more
 pub data Spelled : ℕ → List ℕ → Type 0 where

@@ -8,14 +8,14 @@ use lib.Seq.{take-at}
 use Rattle.words.specs.Lists.{zeros, entries}
 use Rattle.verdict.specs.Limits.{most-steps}
 use Rattle.verdict.specs.Log.{steps}
-use Rattle.verdict.specs.Refusal.{taken, refused}
+use Rattle.verdict.specs.declared.answers.Checked.the-variants.{Passed, Refused}
 use Rattle.verdict.specs.Call.{turned-away, answered}
 use Rattle.verdict.proofs.Only.{buffer-one}
 use Rattle.text.specs.Reading.{Says}
 use Rattle.text.specs.ReadCall.{most-bytes, step-entries, ReadRefusal, wrong-buffer, too-long, by-line, said-steps, leaves-steps, ReadCall}
 use Rattle.text.specs.ReportLine.{refused-line}
 use Rattle.text.specs.Report.{ReportOf, text-too-long, text-refused}
-use Rattle.text.specs.declared.ReadAnswer.the-variants as read-answer
+use Rattle.text.specs.declared.TextAnswer.the-variants as text-answer
 use Rattle.text.proofs.Runs.{steps-length}
 use Rattle.text.proofs.Only.{steps-count}
 
@@ -27,16 +27,16 @@ pub record Was (text buffer′ : List ℕ) (n : ℕ) : Type 0 where
   pub few : n ≤ most-steps
   pub holds : take (4 * n) buffer′ ≡ log
 
-taken-short : {text buffer : List ℕ} → ReadRefusal text buffer taken → length text ≤ most-bytes
-taken-short (by-line h k r) = k
+passed-short : {text buffer : List ℕ} → ReadRefusal text buffer Passed → length text ≤ most-bytes
+passed-short (by-line h k r) = k
 
 module _ (text buffer : List ℕ) (size : length buffer ≡ step-entries) where
-  by-refusal : {n p : ℕ} → ReadRefusal text buffer (refused n p) → ReportOf text (refused-line n p)
+  by-refusal : {n p : ℕ} → ReadRefusal text buffer (Refused n p) → ReportOf text (refused-line n p)
   by-refusal (wrong-buffer h) = absurd (h size)
   by-refusal (too-long h k) = text-too-long k
   by-refusal (by-line h k r) = text-refused _ _ k r
 
-  pub refused-report : {n p : ℕ} {buffer′ : List ℕ} → ReadCall text buffer (read-answer.Refused n p) buffer′ → ReportOf text (refused-line n p)
+  pub refused-report : {n p : ℕ} {buffer′ : List ℕ} → ReadCall text buffer (text-answer.Refused n p) buffer′ → ReportOf text (refused-line n p)
   unfolding said-steps
   refused-report {n} {p} (turned-away m q g e f) =
       let i : n ≡ m = cc in
@@ -44,7 +44,7 @@ module _ (text buffer : List ℕ) (size : length buffer ≡ step-entries) where
       rw (i, j) (by-refusal g)
   refused-report (answered log g h e f) = let z : _≡_ {A = ℕ} 0 1 = cc in absurd (omega arith)
 
-  pub was-read : {n : ℕ} {buffer′ : List ℕ} → ReadCall text buffer (read-answer.Steps n) buffer′ → Was text buffer′ n
+  pub was-read : {n : ℕ} {buffer′ : List ℕ} → ReadCall text buffer (text-answer.Accepted n) buffer′ → Was text buffer′ n
   unfolding said-steps leaves-steps entries
   was-read (turned-away m q g e f) = let z : _≡_ {A = ℕ} 0 1 = cc in absurd (omega arith)
   was-read {n} (answered log g h e f) =
@@ -53,7 +53,7 @@ module _ (text buffer : List ℕ) (size : length buffer ≡ step-entries) where
       let k : length log ≡ 4 * n = steps-length (h .each) ∙ ap (λ (m : ℕ). 4 * m) (sym j) in
       record {
         log = log;
-        short = taken-short g;
+        short = passed-short g;
         says = h;
         few = omega (arith, h .few);
         holds = ap (take (4 * n)) (buffer-one f) ∙ take-at log (zeros (step-entries - length log)) (4 * n) k;

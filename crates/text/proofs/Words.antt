@@ -3,7 +3,7 @@ use mathlib.Core.Path.{_≡_, refl, sym, ap, subst, _∙_}
 use mathlib.Core.Bool.{true, false}
 use mathlib.Core.List.{List, _++_}
 use mathlib.Core.Logic.{_⊎_, inl, inr}
-use Prim.Native.Nat.{ℕ, _+_, _-_, _≤_}
+use Prim.Native.Nat.{ℕ, _+_, _≤_}
 use Prim.Native.Char.{code}
 use native.Mathlib.Omega.{arith}
 use lib.ListN.{length, getD, drop}
@@ -11,7 +11,7 @@ use Rattle.words.specs.Tests.{_is_, _upto_, _and_, if_then_else_}
 use Rattle.words.proofs.Truth.{decide, not-both, and→, upto→, is→, isnt→}
 use Rattle.text.specs.Bytes.{bytes}
 use Rattle.text.specs.Line.{word, item, op, has-word}
-use Rattle.text.specs.Finds.{starts, Finds}
+use Rattle.text.specs.Inner.Finds.{starts, Finds}
 use Rattle.text.specs.declared.number.Number.the-variants.{At}
 use Rattle.text.proofs.Fronts.{→starts}
 use Rattle.text.proofs.Items.{stands-there, stands-fits}

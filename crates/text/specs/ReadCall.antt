@@ -6,11 +6,10 @@ use lib.ListN.{length}
 use Rattle.words.specs.Lists.{entries}
 use Rattle.verdict.specs.Limits.{most-steps}
 use Rattle.verdict.specs.Log.{steps}
-use Rattle.verdict.specs.Refusal.{Refusal, refused}
+use Rattle.verdict.specs.declared.answers.Checked.{Checked}
 use Rattle.verdict.specs.Call.{Call}
 use Rattle.text.specs.Reading.{Reading, Says}
-use Rattle.text.specs.declared.ReadAnswer.{ReadAnswer}
-use Rattle.text.specs.declared.ReadAnswer.the-variants as read-answer
+use Rattle.text.specs.declared.TextAnswer.{TextAnswer}
 
 -- a text has at most 33,803 bytes
 abbrev pub most-bytes : ℕ
@@ -21,27 +20,23 @@ abbrev pub step-entries : ℕ
 step-entries = 4 * most-steps
 
 -- the first refusal that applies, if any: 12, 15, and then what the lines give
-pub data ReadRefusal (text buffer : List ℕ) : Refusal → Type 0 where
+pub data ReadRefusal (text buffer : List ℕ) : Checked → Type 0 where
   -- the step buffer has a wrong length
-  wrong-buffer : (length buffer ≡ step-entries → ⊥) → ReadRefusal text buffer (refused 12 0)
+  wrong-buffer : (length buffer ≡ step-entries → ⊥) → ReadRefusal text buffer (Checked.Refused 12 0)
   -- the text is too long
-  too-long : length buffer ≡ step-entries → most-bytes < length text → ReadRefusal text buffer (refused 15 0)
+  too-long : length buffer ≡ step-entries → most-bytes < length text → ReadRefusal text buffer (Checked.Refused 15 0)
   -- else the lines decide
-  by-line : {given : Refusal} → length buffer ≡ step-entries → length text ≤ most-bytes → Reading text given → ReadRefusal text buffer given
+  by-line : {found : Checked} → length buffer ≡ step-entries → length text ≤ most-bytes → Reading text found → ReadRefusal text buffer found
 
 -- an accepted text: the number of steps is answered
-unfoldable pub said-steps : List ℕ → ReadAnswer
-said-steps log = read-answer.Steps (steps log)
+unfoldable pub said-steps : List ℕ → TextAnswer
+said-steps log = TextAnswer.Accepted (steps log)
 
 -- and the buffer holds the steps and then zeros
 unfoldable pub leaves-steps : List ℕ → List (List ℕ)
 leaves-steps log = entries step-entries log ∷ []
 
--- a call that reads a text, where `given` says which refusal applies
-abbrev pub ReadsCall : (given : Refusal → Type 0) (text buffer : List ℕ) → ReadAnswer → (buffer′ : List ℕ) → Type 0
-ReadsCall given text buffer r buffer′ =
-    Call given read-answer.Refused (Says text) said-steps leaves-steps (buffer ∷ []) r (buffer′ ∷ [])
-
 -- what `read` answers and leaves
-abbrev pub ReadCall : (text buffer : List ℕ) → ReadAnswer → (buffer′ : List ℕ) → Type 0
-ReadCall text buffer = ReadsCall (ReadRefusal text buffer) text buffer
+abbrev pub ReadCall : (text buffer : List ℕ) → TextAnswer → (buffer′ : List ℕ) → Type 0
+ReadCall text buffer r buffer′ =
+    Call (ReadRefusal text buffer) TextAnswer.Refused (Says text) said-steps leaves-steps (buffer ∷ []) r (buffer′ ∷ [])

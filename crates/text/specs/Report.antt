@@ -1,35 +1,34 @@
 -- The report of a text: a line for each verdict, or the refusal alone.
 use mathlib.Core.Path.{_≡_}
 use mathlib.Core.List.{List, _++_}
-use mathlib.Core.Option.{none, some as just}
 use Prim.Native.Nat.{ℕ, _≤_, _<_}
 use lib.ListN.{length}
 use Rattle.verdict.specs.Limits.{transactions}
 use Rattle.verdict.specs.Log.{steps, committed-count}
-use Rattle.verdict.specs.Refusal.{taken, refused, log-refusal, search-refusal}
+use Rattle.verdict.specs.Refusal.{log-refusal, search-refusal}
 use Rattle.verdict.specs.Clean.{cleanness}
 use Rattle.verdict.specs.Snapshot.{snapshot-verdict}
-use Rattle.verdict.specs.Answer.{Answer}
+use Rattle.verdict.specs.Outcome.{Outcome}
 use Rattle.verdict.specs.Conflict.{Conflict}
 use Rattle.verdict.specs.Version.{Version}
 use Rattle.verdict.specs.Exact.{Exact}
+use Rattle.verdict.specs.declared.answers.Checked.{Checked}
 use Rattle.text.specs.Bytes.{bytes}
 use Rattle.text.specs.Line.{header}
 use Rattle.text.specs.Reading.{Says, Reading}
 use Rattle.text.specs.ReadCall.{most-bytes}
-use Rattle.text.specs.ReportLine.{refused-line, committed-line, clean-line, snapshot-line, answer-line}
+use Rattle.text.specs.ReportLine.{refused-line, committed-line, clean-line, snapshot-line, outcome-line, over-line}
 
 -- what is said of a well-formed log by the verdicts with a witness
 pub data ConflictLine (log : List ℕ) : List ℕ → Type 0 where
-  conflict-line : {a : Answer} → Conflict transactions log a → ConflictLine log (answer-line (bytes "conflict=") (just a))
+  conflict-line : {a : Outcome} → Conflict transactions log a → ConflictLine log (outcome-line (bytes "conflict=") a)
 
 pub data VersionLine (log : List ℕ) : List ℕ → Type 0 where
-  version-line : {a : Answer} → Version transactions log a → VersionLine log (answer-line (bytes "version=") (just a))
+  version-line : {a : Outcome} → Version transactions log a → VersionLine log (outcome-line (bytes "version=") a)
 
 pub data ExactLine (log : List ℕ) : List ℕ → Type 0 where
-  -- number 13
-  over-line : (n : ℕ) → search-refusal log ≡ refused 13 n → ExactLine log (answer-line (bytes "exact=") none)
-  exact-line : {a : Answer} → search-refusal log ≡ taken → Exact transactions log a → ExactLine log (answer-line (bytes "exact=") (just a))
+  exact-over : (n : ℕ) → search-refusal log ≡ Checked.Refused 13 n → ExactLine log over-line
+  exact-line : {a : Outcome} → search-refusal log ≡ Checked.Passed → Exact transactions log a → ExactLine log (outcome-line (bytes "exact=") a)
 
 -- the lines before them
 unfoldable pub first-lines : List ℕ → List ℕ
@@ -42,9 +41,9 @@ first-lines log =
 -- the report of a log
 pub data LogReport (log : List ℕ) : List ℕ → Type 0 where
   -- a number turns it away
-  log-refused : (number place : ℕ) → log-refusal log ≡ refused number place → LogReport log (refused-line number place)
+  log-refused : (number place : ℕ) → log-refusal log ≡ Checked.Refused number place → LogReport log (refused-line number place)
   -- a well-formed log
-  judged : {conflict version exact : List ℕ} → log-refusal log ≡ taken → ConflictLine log conflict → VersionLine log version → ExactLine log exact
+  judged : {conflict version exact : List ℕ} → log-refusal log ≡ Checked.Passed → ConflictLine log conflict → VersionLine log version → ExactLine log exact
       → LogReport log (first-lines log ++ conflict ++ version ++ exact)
 
 -- the report of a text
@@ -52,6 +51,6 @@ pub data ReportOf (text : List ℕ) : List ℕ → Type 0 where
   -- the text is too long
   text-too-long : most-bytes < length text → ReportOf text (refused-line 15 0)
   -- a line departs from the text form, or the header says too many steps
-  text-refused : (number place : ℕ) → length text ≤ most-bytes → Reading text (refused number place) → ReportOf text (refused-line number place)
+  text-refused : (number place : ℕ) → length text ≤ most-bytes → Reading text (Checked.Refused number place) → ReportOf text (refused-line number place)
   -- the text says a log
   text-read : (log : List ℕ) {w : List ℕ} → length text ≤ most-bytes → Says text log → LogReport log w → ReportOf text w

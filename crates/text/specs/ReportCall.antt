@@ -1,41 +1,32 @@
--- What a call of `report` answers, and what it leaves in the lent buffers.
+-- What a call of `report` answers, and what it leaves in the lent buffer.
 use mathlib.Core.Path.{_≡_}
-use mathlib.Core.Bool.{Bool}
 use mathlib.Core.List.{List, [], _∷_}
 use Prim.Native.Nat.{ℕ}
 use lib.ListN.{length}
-use Rattle.words.specs.Tests.{_is_, _and_, fails}
-use Rattle.words.specs.Lists.{zeros, entries}
-use Rattle.verdict.specs.Limits.{witness-entries, work-bytes}
-use Rattle.verdict.specs.Refusal.{Refusal, _at_when_}
+use Rattle.words.specs.Tests.{_is_, fails}
+use Rattle.words.specs.Lists.{entries}
+use Rattle.verdict.specs.Refusal.{_at_when_}
 use Rattle.verdict.specs.Call.{Call}
-use Rattle.text.specs.ReadCall.{step-entries}
+use Rattle.verdict.specs.declared.answers.Checked.{Checked}
 use Rattle.text.specs.Report.{ReportOf}
-use Rattle.text.specs.declared.reports.ReportAnswer.{ReportAnswer}
-use Rattle.text.specs.declared.reports.ReportAnswer.the-variants as report-answer
+use Rattle.text.specs.declared.TextAnswer.{TextAnswer}
 
 -- the buffer for a report has 2,048 bytes, and every report fits
 abbrev pub report-bytes : ℕ
 report-bytes = 2048
 
--- how many entries the lent buffers have to have
-unfoldable pub sized : (steps work witness out : ℕ) → Bool
-sized steps work witness out = steps is step-entries and work is work-bytes and witness is witness-entries and out is report-bytes
-
--- 12: a lent buffer has a wrong length
-unfoldable pub buffers-refusal : (steps work witness out : List ℕ) → Refusal
-buffers-refusal steps work witness out = 12 at 0 when fails (sized (length steps) (length work) (length witness) (length out))
+-- 12: the lent buffer has a wrong length
+unfoldable pub report-refusal : List ℕ → Checked
+report-refusal out = 12 at 0 when fails (length out is report-bytes)
 
 -- the length of the report is answered
-unfoldable pub said-length : List ℕ → ReportAnswer
-said-length w = report-answer.Length (length w)
+unfoldable pub said-length : List ℕ → TextAnswer
+said-length w = TextAnswer.Accepted (length w)
 
--- the report stands first in its buffer, zeros behind it, and the other buffers are all 0
+-- the report stands first in its buffer, zeros behind it
 unfoldable pub leaves-report : List ℕ → List (List ℕ)
-leaves-report w = zeros step-entries ∷ zeros work-bytes ∷ zeros witness-entries ∷ entries report-bytes w ∷ []
+leaves-report w = entries report-bytes w ∷ []
 
 -- what `report` answers and leaves
-abbrev pub ReportCall : (text steps work witness out : List ℕ) → ReportAnswer → (steps′ work′ witness′ out′ : List ℕ) → Type 0
-ReportCall text steps work witness out r steps′ work′ witness′ out′ =
-    Call (λ f. f ≡ buffers-refusal steps work witness out) report-answer.Refused (ReportOf text) said-length leaves-report
-    (steps ∷ work ∷ witness ∷ out ∷ []) r (steps′ ∷ work′ ∷ witness′ ∷ out′ ∷ [])
+abbrev pub ReportCall : (text out : List ℕ) → TextAnswer → (out′ : List ℕ) → Type 0
+ReportCall text out r out′ = Call (λ f. f ≡ report-refusal out) TextAnswer.Refused (ReportOf text) said-length leaves-report (out ∷ []) r (out′ ∷ [])

@@ -1,6 +1,6 @@
 // Numbers in decimal.
 ghost use Rattle.text.specs.Decimal.{decimal};
-ghost use Rattle.text.specs.Put.{Fits, Puts};
+ghost use Rattle.text.specs.Inner.Put.{Fits, Puts};
 
 // Puts n in decimal at this place, and answers the place behind it.
 pub(crate) fn put_decimal(out: &mut [u8], at: usize, n: usize) -> usize

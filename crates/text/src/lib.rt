@@ -7,7 +7,6 @@ mod put;
 mod report_line;
 mod reports;
 
-pub use reports::ReportAnswer;
 pub use reports::report;
 ghost use mathlib.Core.Path.{_≡_};
 ghost use mathlib.Core.List.{_++_};
@@ -16,7 +15,8 @@ ghost use lib.ListN.{length, drop};
 ghost use Rattle.verdict.specs.Limits.{most-steps};
 ghost use Rattle.text.specs.Line.{header};
 ghost use Rattle.text.specs.Reading.{Reading};
-ghost use Rattle.text.specs.ReadCall.{step-entries, ReadsCall, ReadCall};
+ghost use Rattle.text.specs.ReadCall.{step-entries, ReadCall};
+ghost use Rattle.text.specs.Inner.ReadsCall.{ReadsCall};
 use crate::clear::clear_from;
 use crate::line::Lines;
 use crate::line::pass;
@@ -36,55 +36,56 @@ impl Text {
     pub const REPORT: usize = 2048;
 }
 
-// What reading a text answers: a refusal with its number and its place, or how many steps were read.
-pub enum ReadAnswer {
+// What a call over a text answers: a refusal with its number and its place, or that it was accepted: how many steps were read, or how
+// many bytes were written.
+pub enum TextAnswer {
     Refused(u16, usize),
-    Steps(usize),
+    Accepted(usize),
 }
 
 // Reads the text's steps into the buffer. A refusal leaves the buffer as it was.
-pub fn read(text: &[u8], steps: &mut [u16]) -> ReadAnswer
+pub fn read(text: &[u8], steps: &mut [u16]) -> TextAnswer
     ensures { λ r. ⌜ ReadCall (now (text .entry)) (now (steps .entry)) r (now (steps .exit)) ⌝ }
 {
     if steps.len() != 4 * Log::LIMIT {
-        return ReadAnswer::Refused(12, 0);
+        return TextAnswer::Refused(12, 0);
     }
     if Text::LIMIT < text.len() {
-        return ReadAnswer::Refused(15, 0);
+        return TextAnswer::Refused(15, 0);
     }
     read_header(text, steps)
 }
 
 // Reads a text from its header on.
-fn read_header(text: &[u8], steps: &mut [u16]) -> ReadAnswer
+fn read_header(text: &[u8], steps: &mut [u16]) -> TextAnswer
     requires { ⌜ length (now steps) ≡ step-entries ⌝ }
     ensures { λ r. ⌜ ReadsCall (Reading (now (text .entry))) (now (text .entry)) (now (steps .entry)) r (now (steps .exit)) ⌝ }
 {
     let Number::At(count, at) = item_at(text, 0, b"steps=", b'\n') else {
-        return ReadAnswer::Refused(16, 0);
+        return TextAnswer::Refused(16, 0);
     };
     let n = count as usize;
     if Log::LIMIT < n {
-        return ReadAnswer::Refused(2, 0);
+        return TextAnswer::Refused(2, 0);
     }
     read_steps(text, at, n, steps)
 }
 
 // Reads the n lines behind a header: first a pass that only looks, and then, where the text is in form, one that fills the buffer.
-fn read_steps(text: &[u8], at: usize, n: usize, steps: &mut [u16]) -> ReadAnswer
+fn read_steps(text: &[u8], at: usize, n: usize, steps: &mut [u16]) -> TextAnswer
     requires { ⌜ (at ≤ length (now text)) × (now text ≡ header n ++ drop at (now text)) × (n ≤ most-steps) × (length (now steps) ≡ step-entries) ⌝ }
     ensures { λ r. ⌜ ReadsCall (Reading (now (text .entry))) (now (text .entry)) (now (steps .entry)) r (now (steps .exit)) ⌝ }
 {
     let seen = pass(text, at, n, steps, false);
     match seen {
-        Lines::Bad(i) => ReadAnswer::Refused(16, i + 1),
+        Lines::Bad(i) => TextAnswer::Refused(16, i + 1),
         Lines::To(end) => {
             if end < text.len() {
-                return ReadAnswer::Refused(16, n + 1);
+                return TextAnswer::Refused(16, n + 1);
             }
             pass(text, at, n, steps, true);
             clear_from(steps, 4 * n);
-            ReadAnswer::Steps(n)
+            TextAnswer::Accepted(n)
         }
     }
 }

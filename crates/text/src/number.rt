@@ -6,7 +6,7 @@ ghost use Prim.Native.Nat.{ℕ, _≤_};
 ghost use lib.ListN.{length, drop};
 ghost use Rattle.text.specs.Decimal.{decimal};
 ghost use Rattle.text.specs.Line.{sayable, item as Line·item};
-ghost use Rattle.text.specs.Finds.{starts, Finds, is-digit};
+ghost use Rattle.text.specs.Inner.Finds.{starts, Finds, is-digit};
 
 // What stands at a place: a number, and the place behind it; or no number in form.
 pub enum Number {

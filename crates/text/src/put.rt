@@ -2,7 +2,7 @@
 ghost use mathlib.Core.List.{[], _∷_};
 ghost use Rattle.text.specs.Decimal.{decimal};
 ghost use Rattle.text.specs.Line.{item};
-ghost use Rattle.text.specs.Put.{Fits, Puts};
+ghost use Rattle.text.specs.Inner.Put.{Fits, Puts};
 ghost use Rattle.text.specs.ReportLine.{numbers};
 use crate::decimal::put_decimal;
 

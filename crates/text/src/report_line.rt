@@ -3,20 +3,22 @@ ghost use mathlib.Core.Path.{_≡_};
 ghost use mathlib.Core.List.{_++_};
 ghost use Prim.Native.Nat.{_≤_};
 ghost use lib.ListN.{length};
-ghost use Rattle.text.specs.Bytes.{bytes};
+ghost use Rattle.verdict.specs.Clean.{fault-step};
+ghost use Rattle.text.specs.Bytes.{bytes, line-end};
 ghost use Rattle.text.specs.Decimal.{decimal};
-ghost use Rattle.text.specs.Put.{Fits, Puts};
-ghost use Rattle.text.specs.ReportLine.{refused-line, clean-line, snapshot-line, numbers, fault-step, value, answer-line};
-ghost use Rattle.text.specs.Heard.{heard-fault, heard-clean, heard-snapshot, heard, heard-entries, line-of};
+ghost use Rattle.text.specs.Line.{item};
+ghost use Rattle.text.specs.ReportLine.{refused-line, clean-line, snapshot-line, numbers};
+ghost use Rattle.text.specs.Inner.Put.{Fits, Puts};
+ghost use Rattle.text.specs.Inner.Told.{told, told-entries};
 use crate::decimal::put_decimal;
 use crate::put::put_byte;
 use crate::put::put_item;
 use crate::put::put_numbers;
 use crate::put::put_word;
-use verdict::Answer;
-use verdict::CleanAnswer;
-use verdict::Fault;
-use verdict::SnapshotAnswer;
+use verdict::answers::Answer;
+use verdict::answers::Cleanness;
+use verdict::answers::Fault;
+use verdict::answers::Snapshot;
 
 // Puts the line of a refusal.
 pub(crate) fn put_refused(out: &mut [u8], number: u16, place: usize) -> usize
@@ -28,14 +30,13 @@ pub(crate) fn put_refused(out: &mut [u8], number: u16, place: usize) -> usize
 }
 
 // Puts the line of the clean verdict.
-pub(crate) fn put_clean(out: &mut [u8], at: usize, answer: CleanAnswer) -> usize
-    requires { ⌜ Fits (line-of clean-line (heard-clean answer)) at (now out) ⌝ }
-    ensures { λ r. ⌜ Puts (line-of clean-line (heard-clean answer)) at (now (out .entry)) r (now (out .exit)) ⌝ }
+pub(crate) fn put_clean(out: &mut [u8], at: usize, clean: Cleanness) -> usize
+    requires { ⌜ Fits (clean-line clean) at (now out) ⌝ }
+    ensures { λ r. ⌜ Puts (clean-line clean) at (now (out .entry)) r (now (out .exit)) ⌝ }
 {
-    match answer {
-        CleanAnswer::Refused(_, _) => at,
-        CleanAnswer::Yes => put_word(out, at, b"clean=yes\n"),
-        CleanAnswer::Unclean(fault) => match fault {
+    match clean {
+        Cleanness::Yes => put_word(out, at, b"clean=yes\n"),
+        Cleanness::Unclean(fault) => match fault {
             Fault::Aborted(k) => put_item(out, at, b"clean=aborted at ", k, b'\n'),
             Fault::Unfinal(k) => put_item(out, at, b"clean=unfinal at ", k, b'\n'),
         },
@@ -43,15 +44,14 @@ pub(crate) fn put_clean(out: &mut [u8], at: usize, answer: CleanAnswer) -> usize
 }
 
 // Puts the line of the snapshot verdict.
-pub(crate) fn put_snapshot(out: &mut [u8], at: usize, answer: SnapshotAnswer) -> usize
-    requires { ⌜ Fits (line-of snapshot-line (heard-snapshot answer)) at (now out) ⌝ }
-    ensures { λ r. ⌜ Puts (line-of snapshot-line (heard-snapshot answer)) at (now (out .entry)) r (now (out .exit)) ⌝ }
+pub(crate) fn put_snapshot(out: &mut [u8], at: usize, snapshot: Snapshot) -> usize
+    requires { ⌜ Fits (snapshot-line snapshot) at (now out) ⌝ }
+    ensures { λ r. ⌜ Puts (snapshot-line snapshot) at (now (out .entry)) r (now (out .exit)) ⌝ }
 {
-    match answer {
-        SnapshotAnswer::Refused(_, _) => at,
-        SnapshotAnswer::Yes => put_word(out, at, b"snapshot=yes\n"),
-        SnapshotAnswer::Read(k) => put_item(out, at, b"snapshot=read at ", k, b'\n'),
-        SnapshotAnswer::Write(k, t) => {
+    match snapshot {
+        Snapshot::Yes => put_word(out, at, b"snapshot=yes\n"),
+        Snapshot::Read(k) => put_item(out, at, b"snapshot=read at ", k, b'\n'),
+        Snapshot::Write(k, t) => {
             let a = put_item(out, at, b"snapshot=write at ", k, b' ');
             put_item(out, a, b"with ", t as usize, b'\n')
         }
@@ -69,7 +69,7 @@ fn put_members(out: &mut [u8], at: usize, word: &[u8], members: &[u16]) -> usize
 
 // The step of a fault.
 fn step_of(fault: Fault) -> usize
-    ensures { λ r. ⌜ r ≡ fault-step (heard-fault fault) ⌝ }
+    ensures { λ r. ⌜ r ≡ fault-step fault ⌝ }
 {
     match fault {
         Fault::Aborted(k) => k,
@@ -79,23 +79,22 @@ fn step_of(fault: Fault) -> usize
 
 // Puts an unclean answer, which tells the step of its fault.
 fn put_unclean(out: &mut [u8], at: usize, fault: Fault) -> usize
-    requires { ⌜ Fits (bytes "unclean at " ++ decimal (fault-step (heard-fault fault))) at (now out) ⌝ }
-    ensures { λ r. ⌜ Puts (bytes "unclean at " ++ decimal (fault-step (heard-fault fault))) at (now (out .entry)) r (now (out .exit)) ⌝ }
+    requires { ⌜ Fits (bytes "unclean at " ++ decimal (fault-step fault)) at (now out) ⌝ }
+    ensures { λ r. ⌜ Puts (bytes "unclean at " ++ decimal (fault-step fault)) at (now (out .entry)) r (now (out .exit)) ⌝ }
 {
     let a = put_word(out, at, b"unclean at ");
     put_decimal(out, a, step_of(fault))
 }
 
 // Puts what stands behind the key of a verdict with a witness.
-fn put_value(out: &mut [u8], at: usize, answer: Answer, witness: &[u16]) -> usize
-    requires { ⌜ (heard-entries answer ≤ length (now witness)) × Fits (value (heard (now witness) answer)) at (now out) ⌝ }
-    ensures { λ r. ⌜ Puts (value (heard (now (witness .entry)) answer)) at (now (out .entry)) r (now (out .exit)) ⌝ }
+fn put_value(out: &mut [u8], at: usize, answer: Answer, list: &[u16]) -> usize
+    requires { ⌜ (told-entries answer ≤ length (now list)) × Fits (told answer (now list)) at (now out) ⌝ }
+    ensures { λ r. ⌜ Puts (told answer (now (list .entry))) at (now (out .entry)) r (now (out .exit)) ⌝ }
 {
     match answer {
-        Answer::Refused(_, _) => put_word(out, at, b"over"),
-        Answer::Order(n) => put_members(out, at, b"order", &witness[..n]),
-        Answer::Cycle(n) => put_members(out, at, b"cycle", &witness[..n]),
-        Answer::Nothing => put_word(out, at, b"none"),
+        Answer::Order(n) => put_members(out, at, b"order", &list[..n]),
+        Answer::Cycle(n) => put_members(out, at, b"cycle", &list[..n]),
+        Answer::None => put_word(out, at, b"none"),
         Answer::Unclean(fault) => put_unclean(out, at, fault),
     }
 }
@@ -106,12 +105,12 @@ pub(crate) fn put_answer(
     at: usize,
     key: &[u8],
     answer: Answer,
-    witness: &[u16],
+    list: &[u16],
 ) -> usize
-    requires { ⌜ (heard-entries answer ≤ length (now witness)) × Fits (answer-line (now key) (heard (now witness) answer)) at (now out) ⌝ }
-    ensures { λ r. ⌜ Puts (answer-line (now (key .entry)) (heard (now (witness .entry)) answer)) at (now (out .entry)) r (now (out .exit)) ⌝ }
+    requires { ⌜ (told-entries answer ≤ length (now list)) × Fits (item (now key) (told answer (now list)) line-end) at (now out) ⌝ }
+    ensures { λ r. ⌜ Puts (item (now (key .entry)) (told answer (now (list .entry))) line-end) at (now (out .entry)) r (now (out .exit)) ⌝ }
 {
     let a = put_word(out, at, key);
-    let b = put_value(out, a, answer, witness);
+    let b = put_value(out, a, answer, list);
     put_byte(out, b, b'\n')
 }

@@ -11,44 +11,52 @@ use Rattle.words.specs.Lists.{member, all}
 use Rattle.words.specs.First.{later}
 use Rattle.graph.specs.Order.{once-each, is-order}
 use Rattle.graph.specs.Cycle.{is-cycle}
-use Rattle.graph.specs.Shows.{Shown, order, cycle, Shows, shows-order, shows-cycle}
+use Rattle.verdict.specs.Outcome.{order, cycle, Outcome, none, unclean, OfGraph, shows-order, shows-cycle}
+use Rattle.graph.specs.Shows as shows
 use Rattle.words.proofs.Truth.{decide, to-false, and→, not-below→, if-true, if-false, lowest-bound, count-above}
 use Rattle.words.proofs.Places.{all→}
 use Rattle.graph.proofs.Judge.{nodes, nodes-length, there-node, once-over, once-length, cycle-over, cycle-length}
 use Rattle.verdict.specs.Limits.{transactions, most-steps}
 use Rattle.verdict.specs.Log.{steps, committed, committed-count, aborted, src}
-use Rattle.verdict.specs.Refusal.{Refusal, taken, refused, _at_when_, _else-try_, tried, range-refusal, life-refusal, source-refusal, step-refusal, open-refusal, log-refusal, search-refusal, work-refusal, witness-refusal}
-use Rattle.verdict.specs.Clean.{Fault, aborted-at, unfinal-at, clean, unclean, is-clean, faulty-read, fault-at, cleanness}
-use Rattle.verdict.specs.Snapshot.{Snapshot, snapshot, read-at, write-at-with, clash, wrong-read, wrong-step, snapshot-fault, snapshot-verdict}
-use Rattle.verdict.specs.Answer.{Answer, shown, none, unclean-by}
-use Rattle.verdict.specs.Conflict.{conflict-edge, Conflict, conflict}
+use Rattle.verdict.specs.declared.answers.Checked.{Checked}
+use Rattle.verdict.specs.declared.answers.Checked.the-variants.{Passed, Refused}
+use Rattle.verdict.specs.Refusal.{_at_when_, _else-try_, tried, range-refusal, life-refusal, source-refusal, step-refusal, open-refusal, log-refusal, search-refusal, work-refusal, witness-refusal, order-refusal}
+use Rattle.verdict.specs.declared.answers.Fault.{Fault}
+use Rattle.verdict.specs.declared.answers.Fault.the-variants.{Aborted, Unfinal}
+use Rattle.verdict.specs.declared.answers.Cleanness.the-variants.{Yes, Unclean}
+use Rattle.verdict.specs.Clean.{is-clean, faulty-read, fault-at, cleanness}
+use Rattle.verdict.specs.declared.answers.Snapshot.{Snapshot}
+use Rattle.verdict.specs.declared.answers.Snapshot.the-variants as snapshot-is
+use Rattle.verdict.specs.declared.answers.Snapshot.the-variants.{Read, Write}
+use Rattle.verdict.specs.Snapshot.{clash, wrong-read, wrong-step, snapshot-fault, snapshot-verdict}
+use Rattle.verdict.specs.Conflict.{conflict-edge, Conflict}
 use Rattle.verdict.specs.Version.{version-edge, Version, version, version-unclean}
 use Rattle.verdict.specs.Replay.{serial}
 use Rattle.verdict.specs.Exact.{Exact, exact, exact-none, exact-unclean}
 use Rattle.verdict.specs.Next.{Next, next, next-none, list-refusal}
-use Rattle.verdict.proofs.WellFormed.{refused≢taken, else-try→, when→, Well, well-formed}
-use Rattle.verdict.proofs.Only.{clean≢unclean}
+use Rattle.verdict.proofs.WellFormed.{refused≢passed, else-try→, when→, Well, well-formed}
+use Rattle.verdict.proofs.Cleanly.{cleanness-clean, clean≢unclean}
 use Rattle.verdict.proofs.Versions.{not-zero}
-use Rattle.verdict.proofs.Judge.{cleanness-clean, loosely-serial, explains-serial, conflict-ends, version-ends}
+use Rattle.verdict.proofs.Computed.{loosely-serial, explains-serial, conflict-ends, version-ends}
 
 -- REFUSALS
 -- the numbers and places that a refusal may have
-abbrev pub Within : Refusal → Type 0
-Within r = (n p : ℕ) → r ≡ refused n p → (n < 10000) × (p < 10000)
+abbrev pub Within : Checked → Type 0
+Within r = (n p : ℕ) → r ≡ Refused n p → (n < 10000) × (p < 10000)
 
 pub within-when : (m q : ℕ) (b : Bool) → m < 10000 → q < 10000 → Within (m at q when b)
 unfolding _at_when_
 within-when m q true h k n p e = let x : m ≡ n = cc in let y : q ≡ p = cc in (omega arith, omega arith)
-within-when m q false h k n p e = absurd (refused≢taken (sym e))
+within-when m q false h k n p e = absurd (refused≢passed (sym e))
 
-pub within-else : (a b : Refusal) → Within a → (a ≡ taken → Within b) → Within (a else-try b)
+pub within-else : (a b : Checked) → Within a → (a ≡ Passed → Within b) → Within (a else-try b)
 unfolding _else-try_
-within-else taken b f g n p e = g refl n p e
-within-else (refused m q) b f g n p e = f n p e
+within-else Passed b f g n p e = g refl n p e
+within-else (Refused m q) b f g n p e = f n p e
 
-within-tried : (n : ℕ) (f : ℕ → Refusal) → ((i : ℕ) → i < n → Within (f i)) → Within (tried n f)
+within-tried : (n : ℕ) (f : ℕ → Checked) → ((i : ℕ) → i < n → Within (f i)) → Within (tried n f)
 unfolding tried
-within-tried zero f h = λ m p e. absurd (refused≢taken (sym e))
+within-tried zero f h = λ m p e. absurd (refused≢passed (sym e))
 within-tried (suc n) f h = within-else (tried n f) (f n) (within-tried n f (λ (i : ℕ) (k : i < n). h i (omega arith))) (λ t. h n (omega arith))
 
 step-within : (log : List ℕ) (i : ℕ) → i < 10000 → Within (step-refusal log i)
@@ -77,6 +85,10 @@ pub witness-within : (witness : List ℕ) → Within (witness-refusal witness)
 unfolding witness-refusal
 witness-within witness = within-when 12 0 _ (omega arith) (omega arith)
 
+pub order-within : (handed-in : List ℕ) → Within (order-refusal handed-in)
+unfolding order-refusal
+order-within handed-in = within-when 12 0 _ (omega arith) (omega arith)
+
 pub list-within : (most : ℕ) (log given : List ℕ) → Within (list-refusal most log given)
 unfolding list-refusal
 list-within most log given = within-when 14 0 _ (omega arith) (omega arith)
@@ -84,14 +96,14 @@ list-within most log given = within-when 14 0 _ (omega arith) (omega arith)
 -- ANSWERS
 -- a fault at a step up to n
 pub data FaultUpto (n : ℕ) : Fault → Type 0 where
-  aborted-upto : {k : ℕ} → k ≤ n → FaultUpto n (aborted-at k)
-  unfinal-upto : {k : ℕ} → k ≤ n → FaultUpto n (unfinal-at k)
+  aborted-upto : {k : ℕ} → k ≤ n → FaultUpto n (Aborted k)
+  unfinal-upto : {k : ℕ} → k ≤ n → FaultUpto n (Unfinal k)
 
 -- a wrong step up to n, and a partner up to m
 pub data SnapshotUpto (n m : ℕ) : Snapshot → Type 0 where
-  snapshot-fine : SnapshotUpto n m snapshot
-  read-upto : {k : ℕ} → k ≤ n → SnapshotUpto n m (read-at k)
-  write-upto : {k t : ℕ} → k ≤ n → t ≤ m → SnapshotUpto n m (write-at-with k t)
+  snapshot-fine : SnapshotUpto n m snapshot-is.Yes
+  read-upto : {k : ℕ} → k ≤ n → SnapshotUpto n m (Read k)
+  write-upto : {k t : ℕ} → k ≤ n → t ≤ m → SnapshotUpto n m (Write k t)
 
 -- at most m members, each up to m
 pub record MembersUpto (m : ℕ) (w : List ℕ) : Type 0 where
@@ -99,11 +111,11 @@ pub record MembersUpto (m : ℕ) (w : List ℕ) : Type 0 where
   pub each : (t : ℕ) → member t w ≡ true → t ≤ m
 
 -- an order or a cycle of at most m members, each up to m, or a fault at a step up to n
-pub data AnswerUpto (n m : ℕ) : Answer → Type 0 where
-  order-upto : {w : List ℕ} → MembersUpto m w → AnswerUpto n m (shown (order w))
-  cycle-upto : {c : List ℕ} → MembersUpto m c → AnswerUpto n m (shown (cycle c))
-  none-fine : AnswerUpto n m none
-  unclean-upto : {f : Fault} → FaultUpto n f → AnswerUpto n m (unclean-by f)
+pub data OutcomeUpto (n m : ℕ) : Outcome → Type 0 where
+  order-upto : {w : List ℕ} → MembersUpto m w → OutcomeUpto n m (order w)
+  cycle-upto : {c : List ℕ} → MembersUpto m c → OutcomeUpto n m (cycle c)
+  none-fine : OutcomeUpto n m none
+  unclean-upto : {f : Fault} → FaultUpto n f → OutcomeUpto n m (unclean f)
 
 count-upto : (n : ℕ) (p : ℕ → Bool) → count n p ≤ n
 unfolding count
@@ -113,7 +125,7 @@ count-upto (suc n) p =
     ⊎-elim (λ (k : p n ≡ true). let e : count (suc n) p ≡ suc (count n p) = if-true _ _ k in omega arith)
     (λ (k : p n ≡ false). let e : count (suc n) p ≡ count n p = if-false _ _ k in omega arith) (decide (p n))
 
-module _ (log : List ℕ) (well : log-refusal log ≡ taken) where
+module _ (log : List ℕ) (well : log-refusal log ≡ Passed) where
   formed : Well transactions log
   formed = well-formed log well
 
@@ -152,14 +164,14 @@ module _ (log : List ℕ) (well : log-refusal log ≡ taken) where
       → MembersUpto transactions c
   cycle-few edge ends c h = nodes-upto c (cycle-over (suc transactions) (committed log) edge ends c h) (omega (arith, cycle-length (suc transactions) (committed log) edge ends c h))
 
-  shown-few : (edge : ℕ → ℕ → Bool) → ((a b : ℕ) → edge a b ≡ true → (a < suc transactions) × (committed log a ≡ true)) → (s : Shown)
-      → Shows (suc transactions) (committed log) edge s → AnswerUpto most-steps transactions (shown s)
+  shown-few : (edge : ℕ → ℕ → Bool) → ((a b : ℕ) → edge a b ≡ true → (a < suc transactions) × (committed log a ≡ true)) → {a : Outcome}
+      → OfGraph transactions log edge a → OutcomeUpto most-steps transactions a
   unfolding is-order
-  shown-few edge ends (order w) (shows-order n f) = order-upto (once-few w (and→ (f .one) .0))
-  shown-few edge ends (cycle c) (shows-cycle f) = cycle-upto (cycle-few edge ends c (f .one))
+  shown-few edge ends (shows-order {w} (shows.shows-order n f)) = order-upto (once-few w (and→ (f .one) .0))
+  shown-few edge ends (shows-cycle {c} (shows.shows-cycle f)) = cycle-upto (cycle-few edge ends c (f .one))
 
   -- the step of a fault
-  pub fault-few : {f : Fault} → cleanness log ≡ unclean f → FaultUpto most-steps f
+  pub fault-few : {f : Fault} → cleanness log ≡ Unclean f → FaultUpto most-steps f
   unfolding cleanness fault-at if_then_else_
   fault-few {f} e = go (is-clean log) (aborted log (src log k)) e
     where
@@ -169,10 +181,10 @@ module _ (log : List ℕ) (well : log-refusal log ≡ taken) where
       low : k ≤ most-steps
       low = omega (arith, lowest-bound {n = steps log} (faulty-read log), few-steps)
 
-      go : (b c : Bool) → (if b then clean else unclean (if c then aborted-at k else unfinal-at k)) ≡ unclean f → FaultUpto most-steps f
+      go : (b c : Bool) → (if b then Yes else Unclean (if c then Aborted k else Unfinal k)) ≡ Unclean f → FaultUpto most-steps f
       go true c e = absurd (clean≢unclean refl e)
-      go false true e = let z : aborted-at k ≡ f = cc in rw (← z) (aborted-upto low)
-      go false false e = let z : unfinal-at k ≡ f = cc in rw (← z) (unfinal-upto low)
+      go false true e = let z : Aborted k ≡ f = cc in rw (← z) (aborted-upto low)
+      go false false e = let z : Unfinal k ≡ f = cc in rw (← z) (unfinal-upto low)
 
   pub snapshot-few : SnapshotUpto most-steps (suc transactions) (snapshot-verdict transactions log)
   unfolding snapshot-verdict snapshot-fault if_then_else_
@@ -187,25 +199,25 @@ module _ (log : List ℕ) (well : log-refusal log ≡ taken) where
       low : k ≤ most-steps
       low = omega (arith, lowest-bound {n = steps log} (wrong-step transactions log), few-steps)
 
-      go : (b c : Bool) → SnapshotUpto most-steps (suc transactions) (if b then if c then read-at k else write-at-with k t else snapshot)
+      go : (b c : Bool) → SnapshotUpto most-steps (suc transactions) (if b then if c then Read k else Write k t else snapshot-is.Yes)
       go true true = read-upto low
       go true false = write-upto low (lowest-bound (clash log k))
       go false c = snapshot-fine
 
-  pub conflict-few : {a : Answer} → Conflict transactions log a → AnswerUpto most-steps transactions a
-  conflict-few (conflict {s} h) = shown-few (conflict-edge log) (conflict-ends log formed) s h
+  pub conflict-few : {a : Outcome} → Conflict transactions log a → OutcomeUpto most-steps transactions a
+  conflict-few = shown-few (conflict-edge log) (conflict-ends log formed)
 
-  pub version-few : {a : Answer} → Version transactions log a → AnswerUpto most-steps transactions a
-  version-few (version {s} c h) = shown-few (version-edge log) (version-ends log formed (cleanness-clean log c)) s h
+  pub version-few : {a : Outcome} → Version transactions log a → OutcomeUpto most-steps transactions a
+  version-few (version c h) = shown-few (version-edge log) (version-ends log formed (cleanness-clean log c)) h
   version-few (version-unclean e) = unclean-upto (fault-few e)
 
-  pub exact-few : {a : Answer} → Exact transactions log a → AnswerUpto most-steps transactions a
+  pub exact-few : {a : Outcome} → Exact transactions log a → OutcomeUpto most-steps transactions a
   unfolding serial
   exact-few (exact {w} f) = order-upto (once-few w (loosely-serial transactions log w (f .one)))
   exact-few (exact-none c n) = none-fine
   exact-few (exact-unclean e) = unclean-upto (fault-few e)
 
-  pub next-few : {v : List ℕ} {a : Answer} → Next transactions log v a → AnswerUpto most-steps transactions a
+  pub next-few : {v : List ℕ} {a : Outcome} → Next transactions log v a → OutcomeUpto most-steps transactions a
   unfolding serial later
   next-few (next {w} f) = order-upto (once-few w (explains-serial transactions log w (and→ (f .one) .0)))
   next-few (next-none n) = none-fine

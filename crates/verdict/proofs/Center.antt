@@ -10,13 +10,15 @@ use Rattle.words.specs.Lists.{member, distinct, before}
 use Rattle.graph.specs.Order.{once-each, keeps}
 use Rattle.verdict.specs.Log.{steps, kind, tx, obj, src, reads, writes, committed, writer, commit-step}
 use Rattle.verdict.specs.Clean.{judged, judged-other, final-source, faulty-read, is-clean}
-use Rattle.verdict.specs.Version.{after, next-version, writer-to-next, source-to-reader, reader-to-next, version-edge}
+use Rattle.verdict.specs.Version.{versions-from, next-version, version-edge}
+use Rattle.verdict.specs.Inner.VersionEdges.{from-writer, from-source, from-reader, plain-version}
 use Rattle.verdict.specs.Replay.{serial, finds, reads-right, writers-in-order, explains-loosely, explains}
 use Rattle.words.proofs.Truth.{decide, not-both, to-true, and→, →and, or→, →or-left, →or-right, fails→, →fails, implies→, →implies, is→, →is, isnt→, →isnt, below→, →below, not-below→, some→, →some, none→, every→, →every}
 use Rattle.words.proofs.Places.{all→, →all, before-left, before-irreflexive, before-trans, before-asym, before-total}
 use Rattle.verdict.proofs.WellFormed.{Well}
-use Rattle.verdict.proofs.Versions.{not-zero, Wrote, Following, after-zero, after-other, share, shared, committed-range, commit-injective, next→, →next}
-use Rattle.verdict.proofs.Finds.{Last, None, finds-cases}
+use Rattle.verdict.proofs.Versions.{not-zero, Wrote, Following, versions-from-zero, versions-from-other, share, shared, committed-range, commit-injective, next→, →next}
+use Rattle.verdict.proofs.Replayed.{Last, None, finds-cases}
+use Rattle.verdict.proofs.Dependencies.{plain-version-edge}
 
 module _ {most : ℕ} (log : List ℕ) (well : Well most log) (w : List ℕ) (ser : serial most log w ≡ true) where
   different : distinct w ≡ true
@@ -54,14 +56,14 @@ module _ {most : ℕ} (log : List ℕ) (well : Well most log) (w : List ℕ) (se
         ⊎-elim (λ k. k) (λ (k : before b a w ≡ true). let z : commit-step log b < commit-step log a = commit-order x b a q p k in absurd (omega arith))
         (before-total a b w (is-member a (p .commit)) (is-member b (q .commit)) (λ (e : a ≡ b). let f : commit-step log a ≡ commit-step log b = ap (commit-step log) e in omega arith))
 
-    keep-ww : (a b : ℕ) → writer-to-next log a b ≡ true → before a b w ≡ true
-    unfolding writer-to-next writer writes
+    keep-ww : (a b : ℕ) → from-writer log a b ≡ true → before a b w ≡ true
+    unfolding from-writer writer writes
     keep-ww a b h =
         let r = some→ (and→ h .1) in
         let x : ℕ = obj log (r .0) in
         let p : Wrote log x a = record { commit = and→ h .0; write = →some _ (r .0) (r .1) (→and (and→ (r .2) .0) (→is refl)) } in
         let f : Following log well x a b = next→ log well x a b (and→ (r .2) .1) in
-        by-commit x a b p (f .wrote) (rw (after-other log a (not-zero log well a (p .commit))) at (f .later))
+        by-commit x a b p (f .wrote) (rw (versions-from-other log a (not-zero log well a (p .commit))) at (f .later))
 
     -- what a judged read from another finds is its source
     read-found : (i : ℕ) → i < steps log → judged-other log i ≡ true
@@ -71,8 +73,8 @@ module _ {most : ℕ} (log : List ℕ) (well : Well most log) (w : List ℕ) (se
         rw (is→ (implies→ (every→ _ right i h) j)) at
         (finds-cases log (obj log i) (tx log i) 0 w different (is-member (tx log i) (read→ i h (and→ j .0) .reader)))
 
-    keep-wr : (a b : ℕ) → (a ≡ b → ⊥) → (a ≡ 0 → ⊥) → source-to-reader log a b ≡ true → before a b w ≡ true
-    unfolding source-to-reader judged-other
+    keep-wr : (a b : ℕ) → (a ≡ b → ⊥) → (a ≡ 0 → ⊥) → from-source log a b ≡ true → before a b w ≡ true
+    unfolding from-source judged-other
     keep-wr a b n z h =
         let r = some→ h in
         let i : ℕ = r .0 in
@@ -110,7 +112,7 @@ module _ {most : ℕ} (log : List ℕ) (well : Well most log) (w : List ℕ) (se
             p = record { commit = of-member s (before-left s r w (l .here)); write = l .write }
 
             later : suc (commit-step log s) ≤ commit-step log b
-            later = rw (after-other log s (not-zero log well s (p .commit))) at (f .later)
+            later = rw (versions-from-other log s (not-zero log well s (p .commit))) at (f .later)
 
             same-one : b ≡ s → ⊥
             same-one e = let c : commit-step log b ≡ commit-step log s = ap (commit-step log) e in omega (arith, later)
@@ -123,11 +125,11 @@ module _ {most : ℕ} (log : List ℕ) (well : Well most log) (w : List ℕ) (se
             let e : s ≡ r = is→ own in
             let z : s ≡ 0 → ⊥ = λ (k : s ≡ 0). not-zero log well r (read .reader) (sym e ∙ k) in
             let p : Wrote log x r = record { commit = read .reader; write = rw e at (well .source i h (read .kind-2) z) } in
-            by-commit x r b p (f .wrote) (rw (after-other log r (not-zero log well r (read .reader))) at (rw e at (f .later)))
+            by-commit x r b p (f .wrote) (rw (versions-from-other log r (not-zero log well r (read .reader))) at (rw e at (f .later)))
         go (inr own) = ⊎-elim (λ k. k) (λ k. absurd (from-other (read-found i h (→and j (→fails own))) k)) other
 
-    keep-rw : (a b : ℕ) → (a ≡ b → ⊥) → reader-to-next log a b ≡ true → before a b w ≡ true
-    unfolding reader-to-next
+    keep-rw : (a b : ℕ) → (a ≡ b → ⊥) → from-reader log a b ≡ true → before a b w ≡ true
+    unfolding from-reader
     keep-rw a b n h =
         let r = some→ h in
         let i : ℕ = r .0 in
@@ -136,8 +138,9 @@ module _ {most : ℕ} (log : List ℕ) (well : Well most log) (w : List ℕ) (se
         (reader-first i b (r .1) (and→ (and→ (r .2) .0) .0) (λ (k : tx log i ≡ b). n (sym e ∙ k)) (next→ log well (obj log i) (src log i) b (and→ (r .2) .1)))
 
     keep-edge : (a b : ℕ) → version-edge log a b ≡ true → before a b w ≡ true
-    unfolding version-edge
-    keep-edge a b h =
+    unfolding plain-version
+    keep-edge a b e =
+        let h : plain-version log a b ≡ true = sym (plain-version-edge log well a b) ∙ e in
         let n : a ≡ b → ⊥ = isnt→ (fails→ (and→ (and→ (and→ h .0) .0) .0)) in
         let z : a ≡ 0 → ⊥ = isnt→ (fails→ (and→ (and→ (and→ h .0) .0) .1)) in
         ⊎-elim (λ k. ⊎-elim (keep-ww a b) (keep-wr a b n z) (or→ k)) (keep-rw a b n) (or→ (and→ h .1))
@@ -153,13 +156,13 @@ module _ {most : ℕ} (log : List ℕ) (well : Well most log) (w : List ℕ) (se
     edge a b p q h = implies→ (all→ _ w (all→ _ w kept a (is-member a p)) b (is-member b q)) h
 
     -- two different committed transactions are joined
-    join : (a b : ℕ) → committed log a ≡ true → committed log b ≡ true → (a ≡ b → ⊥) → (writer-to-next log a b or source-to-reader log a b or reader-to-next log a b) ≡ true → before a b w ≡ true
-    unfolding version-edge
+    join : (a b : ℕ) → committed log a ≡ true → committed log b ≡ true → (a ≡ b → ⊥) → (from-writer log a b or from-source log a b or from-reader log a b) ≡ true → before a b w ≡ true
+    unfolding plain-version
     join a b p q n h =
-        edge a b p q (→and (→and (→and (→fails (→isnt n)) (→fails (→isnt (not-zero log well a p)))) (→fails (→isnt (not-zero log well b q)))) h)
+        edge a b p q (plain-version-edge log well a b ∙ →and (→and (→and (→fails (→isnt n)) (→fails (→isnt (not-zero log well a p)))) (→fails (→isnt (not-zero log well b q)))) h)
 
     to-next : (x a u : ℕ) → Wrote log x a → committed log u ≡ true → (a ≡ u → ⊥) → next-version log x a u ≡ true → before a u w ≡ true
-    unfolding writer-to-next writer writes
+    unfolding from-writer writer writes
     to-next x a u p q n h =
         let r = some→ (p .write) in
         let e : obj log (r .0) ≡ x = is→ (and→ (r .2) .1) in
@@ -170,8 +173,8 @@ module _ {most : ℕ} (log : List ℕ) (well : Well most log) (w : List ℕ) (se
     chain zero x a b p q h l = absurd (omega arith)
     chain (suc k) x a b p q h l = go (decide (commit-step log u below commit-step log b)) (λ h′ l′. chain k x u b (f .wrote) q h′ l′)
       where
-        a-after : after log a ≡ suc (commit-step log a)
-        a-after = after-other log a (not-zero log well a (p .commit))
+        a-after : versions-from log a ≡ suc (commit-step log a)
+        a-after = versions-from-other log a (not-zero log well a (p .commit))
 
         r : (u : ℕ) × (next-version log x a u ≡ true) × Following log well x a u
         r = →next log well x a b q (rw a-after h)
@@ -239,14 +242,14 @@ module _ {most : ℕ} (log : List ℕ) (well : Well most log) (w : List ℕ) (se
           }
 
       source-before : (src log i ≡ 0 → ⊥) → before (src log i) (tx log i) w ≡ true
-      unfolding source-to-reader judged-other
+      unfolding from-source judged-other
       source-before z =
           join (src log i) (tx log i) (source z .commit) (read .reader) not-own
           (→or-left _ (→or-right _ (→some _ i h (→and (→and (and→ j .0) (→is refl)) (→is refl)))))
 
       -- the reader stands before the writer of any version after the one read
-      before-newer : (u : ℕ) → Wrote log (obj log i) u → after log (src log i) ≤ commit-step log u → before u (tx log i) w ≡ true → ⊥
-      unfolding reader-to-next judged-other
+      before-newer : (u : ℕ) → Wrote log (obj log i) u → versions-from log (src log i) ≤ commit-step log u → before u (tx log i) w ≡ true → ⊥
+      unfolding from-reader judged-other
       before-newer u p l m = go (decide (n is tx log i))
         where
           r : (n : ℕ) × (next-version log (obj log i) (src log i) n ≡ true) × Following log well (obj log i) (src log i) n
@@ -286,14 +289,14 @@ module _ {most : ℕ} (log : List ℕ) (well : Well most log) (w : List ℕ) (se
           t = finds log x r 0 w
 
           -- the one found is no newer than the source
-          older : Last log x r t w → commit-step log t < after log s
-          older l = ⊎-elim (λ (c : (commit-step log t below after log s) ≡ true). below→ c) (λ (c : (commit-step log t below after log s) ≡ false). absurd (before-newer t (found l) (not-below→ c) (l .here))) (decide (commit-step log t below after log s))
+          older : Last log x r t w → commit-step log t < versions-from log s
+          older l = ⊎-elim (λ (c : (commit-step log t below versions-from log s) ≡ true). below→ c) (λ (c : (commit-step log t below versions-from log s) ≡ false). absurd (before-newer t (found l) (not-below→ c) (l .here))) (decide (commit-step log t below versions-from log s))
             where
               found : Last log x r t w → Wrote log x t
               found l = record { commit = of-member t (before-left t r w (l .here)); write = l .write }
 
           go : ((s is 0) ≡ true) ⊎ ((s is 0) ≡ false) → Last log x r t w ⊎ ((t ≡ 0) × None log x r w) → t ≡ s
-          go (inl z) (inl l) = let c : commit-step log t < 0 = rw after-zero at (rw (is→ {m = s} {n = 0} z) at (older l)) in absurd (omega arith)
+          go (inl z) (inl l) = let c : commit-step log t < 0 = rw versions-from-zero at (rw (is→ {m = s} {n = 0} z) at (older l)) in absurd (omega arith)
           go (inl z) (inr k) = k .0 ∙ sym (is→ z)
           go (inr z) (inr k) = absurd (k .1 s (source (isnt→ z) .write) (source-before (isnt→ z)))
           go (inr z) (inl l) = ⊎-elim sym later (l .last s (source (isnt→ z) .write) (source-before (isnt→ z)))
@@ -301,7 +304,7 @@ module _ {most : ℕ} (log : List ℕ) (well : Well most log) (w : List ℕ) (se
               later : before s t w ≡ true → t ≡ s
               later m =
                   let c : commit-step log s < commit-step log t = order-commit x s t (source (isnt→ z)) (record { commit = of-member t (before-left t r w (l .here)); write = l .write }) m in
-                  let d : commit-step log t < suc (commit-step log s) = rw (after-other log s (isnt→ z)) at (older l) in
+                  let d : commit-step log t < suc (commit-step log s) = rw (versions-from-other log s (isnt→ z)) at (older l) in
                   absurd (omega arith)
 
     right-reads : reads-right log w ≡ true

@@ -7,11 +7,9 @@ use native.Mathlib.Omega.{arith}
 use Rattle.words.specs.Tests.{fails, lowest}
 use Rattle.words.proofs.Truth.{to-true, →and, and-no-left, and-no-right, and-true, →or-left, or-false, →fails, →not-fails, →is, →isnt, if-true, if-false, lowest-none, lowest-some}
 use Rattle.verdict.specs.Log.{steps, obj, src, committed, aborted}
-use Rattle.verdict.specs.Said.{said-fault, said-clean}
-use Rattle.verdict.specs.declared.Fault as code
-use Rattle.verdict.specs.declared.CleanAnswer.{CleanAnswer}
-use Rattle.verdict.specs.declared.CleanAnswer.the-variants as clean-answer
-use Rattle.verdict.specs.Clean.{Fault, aborted-at, unfinal-at, Cleanness, clean, unclean, judged-other, writes-later, final-source, faulty-read, is-clean, fault-at, cleanness}
+use Rattle.verdict.specs.declared.answers.Fault.the-variants.{Aborted, Unfinal}
+use Rattle.verdict.specs.declared.answers.Cleanness.the-variants.{Yes, Unclean}
+use Rattle.verdict.specs.Clean.{judged-other, writes-later, final-source, faulty-read, is-clean, fault-at, cleanness}
 
 module _ (log : List ℕ) (i : ℕ) where
   pub not-faulty : judged-other log i ≡ false → faulty-read log i ≡ false
@@ -38,30 +36,19 @@ module _ (log : List ℕ) (i : ℕ) where
 
 -- the verdict, by the lowest faulty step
 module _ (log : List ℕ) where
-  pub no-fault : steps log ≤ lowest (steps log) (faulty-read log) → cleanness log ≡ clean
+  pub no-fault : steps log ≤ lowest (steps log) (faulty-read log) → cleanness log ≡ Yes
   unfolding cleanness is-clean
   no-fault h = if-true _ _ (→fails (lowest-some (faulty-read log) h))
 
   module _ (k : ℕ) (e : k ≡ lowest (steps log) (faulty-read log)) (h : k < steps log) where
-    faulty : cleanness log ≡ unclean (fault-at log k)
+    faulty : cleanness log ≡ Unclean (fault-at log k)
     unfolding cleanness is-clean
-    faulty = if-false _ _ (→not-fails (to-true _ (λ n. let z : lowest (steps log) (faulty-read log) ≡ steps log = lowest-none (faulty-read log) n in omega arith))) ∙ ap (λ (j : ℕ). unclean (fault-at log j)) (sym e)
+    faulty = if-false _ _ (→not-fails (to-true _ (λ n. let z : lowest (steps log) (faulty-read log) ≡ steps log = lowest-none (faulty-read log) n in omega arith))) ∙ ap (λ (j : ℕ). Unclean (fault-at log j)) (sym e)
 
-    pub from-aborted : aborted log (src log k) ≡ true → cleanness log ≡ unclean (aborted-at k)
+    pub from-aborted : aborted log (src log k) ≡ true → cleanness log ≡ Unclean (Aborted k)
     unfolding fault-at
-    from-aborted a = faulty ∙ ap unclean (if-true _ _ a)
+    from-aborted a = faulty ∙ ap Unclean (if-true _ _ a)
 
-    pub from-unfinal : aborted log (src log k) ≡ false → cleanness log ≡ unclean (unfinal-at k)
+    pub from-unfinal : aborted log (src log k) ≡ false → cleanness log ≡ Unclean (Unfinal k)
     unfolding fault-at
-    from-unfinal a = faulty ∙ ap unclean (if-false _ _ a)
-
--- what the code says of the verdict tells which it is
-pub told-clean : (k : Cleanness) {r : CleanAnswer} → r ≡ said-clean k → ((f : code.Fault) → r ≡ clean-answer.Unclean f → ⊥) → k ≡ clean
-unfolding said-clean
-told-clean clean e n = refl
-told-clean (unclean f) e n = absurd (n (said-fault f) e)
-
-pub told-unclean : (k : Cleanness) {f : code.Fault} → said-clean k ≡ clean-answer.Unclean f → (g : Fault) × (k ≡ unclean g) × (f ≡ said-fault g)
-unfolding said-clean
-told-unclean clean e = let z : _≡_ {A = ℕ} 0 1 = cc in absurd (omega arith)
-told-unclean (unclean g) e = (g, refl, cc)
+    from-unfinal a = faulty ∙ ap Unclean (if-false _ _ a)

@@ -1,90 +1,107 @@
--- The frame of a call: the lengths of the lent buffers, and the buffers that an answer leaves.
+-- The frame of a call: the lengths of the lent buffers, and what an answer leaves in them.
 use mathlib.Core.Path.{_≡_, refl, sym, ap, _∙_}
 use mathlib.Core.List.{List, [], _∷_}
 use Prim.Native.Nat.{ℕ}
 use lib.ListN.{length}
-use Rattle.words.specs.Lists.{zeros, entries}
+use Rattle.words.specs.Lists.{zeros}
 use Rattle.words.proofs.Truth.{not-fails→, →not-fails, is→, →is}
-use Rattle.verdict.specs.Limits.{work-bytes, witness-entries}
-use Rattle.verdict.specs.Refusal.{Refusal, taken, refused, _else-try_, work-refusal, witness-refusal}
-use Rattle.verdict.specs.declared.Checked.{Checked}
-use Rattle.verdict.specs.declared.Checked.the-variants as checked
-use Rattle.verdict.specs.Answer as answer
-use Rattle.verdict.specs.Clean.{Fault}
-use Rattle.verdict.specs.Said.{said-refusal, witness as witness-of}
-use Rattle.verdict.specs.Call.{Call, turned-away, answered, leaves-work, leaves-witness, WitnessCall}
-use Rattle.verdict.specs.Walk.{Answers}
-use Rattle.verdict.specs.declared.Answer.{Answer}
-use Rattle.verdict.specs.declared.Answer.the-variants as the-answer
+use Rattle.verdict.specs.Limits.{work-bytes, witness-entries, order-entries}
+use Rattle.verdict.specs.Refusal.{_else-try_, work-refusal, witness-refusal, order-refusal}
+use Rattle.verdict.specs.Outcome.{Outcome}
+use Rattle.verdict.specs.Judgement.{Holds}
+use Rattle.verdict.specs.Witness.{witness}
+use Rattle.verdict.specs.Call.{turned-away, answered, leaves-work, said-judged, leaves-witness, WitnessCall}
+use Rattle.verdict.specs.Inner.Leaving.{Leaves}
+use Rattle.verdict.specs.declared.answers.Checked.{Checked}
+use Rattle.verdict.specs.declared.answers.Checked.the-variants.{Passed, Refused}
+use Rattle.verdict.specs.declared.answers.Witnessed.{Witnessed}
+use Rattle.verdict.specs.declared.answers.WitnessAnswer.{WitnessAnswer}
+use Rattle.verdict.specs.declared.answers.WitnessAnswer.the-variants as witness-answer
 use Rattle.verdict.proofs.WellFormed.{else-try→, when→}
-use Rattle.verdict.proofs.Refused.{when-no, tried-taken}
-use Rattle.verdict.proofs.Steps.{said-refused, said-passed}
+use Rattle.verdict.proofs.Refused.{when-no, tried-passed}
 
 -- what is not turned away has buffers of the right length
-pub work-length : (work : List ℕ) → work-refusal work ≡ taken → length work ≡ work-bytes
+pub work-length : (work : List ℕ) → work-refusal work ≡ Passed → length work ≡ work-bytes
 unfolding work-refusal
 work-length work e = is→ (not-fails→ (when→ 12 0 _ e))
 
-pub witness-length : (witness : List ℕ) → witness-refusal witness ≡ taken → length witness ≡ witness-entries
+pub witness-length : (lent : List ℕ) → witness-refusal lent ≡ Passed → length lent ≡ witness-entries
 unfolding witness-refusal
-witness-length witness e = is→ (not-fails→ (when→ 12 0 _ e))
+witness-length lent e = is→ (not-fails→ (when→ 12 0 _ e))
 
 -- buffers of the right length are not turned away
-pub work-taken : (work : List ℕ) → length work ≡ work-bytes → work-refusal work ≡ taken
+pub work-passed : (work : List ℕ) → length work ≡ work-bytes → work-refusal work ≡ Passed
 unfolding work-refusal
-work-taken work e = when-no 12 0 (→not-fails (→is e))
+work-passed work e = when-no 12 0 (→not-fails (→is e))
 
-pub witness-taken : (witness : List ℕ) → length witness ≡ witness-entries → witness-refusal witness ≡ taken
+pub witness-passed : (lent : List ℕ) → length lent ≡ witness-entries → witness-refusal lent ≡ Passed
 unfolding witness-refusal
-witness-taken witness e = when-no 12 0 (→not-fails (→is e))
+witness-passed lent e = when-no 12 0 (→not-fails (→is e))
 
-pub both-taken : {a b : Refusal} → a ≡ taken → b ≡ taken → (a else-try b) ≡ taken
-both-taken {b} e f = tried-taken b e ∙ f
+pub order-passed : (order : List ℕ) → length order ≡ order-entries → order-refusal order ≡ Passed
+unfolding order-refusal
+order-passed order e = when-no 12 0 (→not-fails (→is e))
 
--- a call with a witness that is taken: both buffers have the right length, and nothing else turns it away
-pub record Admitted (rest : Refusal) (work witness : List ℕ) : Type 0 where
-  pub taken-all : (work-refusal work else-try witness-refusal witness else-try rest) ≡ taken
-  pub work-size : length work ≡ work-bytes
-  pub witness-size : length witness ≡ witness-entries
-  pub well : rest ≡ taken
-
-module _ (rest : Refusal) (work witness : List ℕ) {r : Checked} (told : r ≡ said-refusal (work-refusal work else-try witness-refusal witness else-try rest)) where
-  pub admitted : r ≡ checked.Passed → Admitted rest work witness
-  admitted e =
-      let t = said-passed _ (sym told ∙ e) in
-      let later = else-try→ (else-try→ t .1) in
-      record { taken-all = t; work-size = work-length work (else-try→ t .0); witness-size = witness-length witness (later .0); well = later .1 }
-
-  pub not-admitted : {n p : ℕ} → r ≡ checked.Refused n p → refused n p ≡ (work-refusal work else-try witness-refusal witness else-try rest)
-  not-admitted e = sym (said-refused _ (sym told ∙ e))
-
-  -- .. and so the call
-  module _ (verdict : answer.Answer → Type 0) where
-    pub call-answered : r ≡ checked.Passed → {a : Answer} {work′ witness′ : List ℕ} → Answers verdict a work′ witness′ → WitnessCall rest verdict work witness a work′ witness′
-    call-answered e x = answered (x .given) (sym (admitted e .taken-all)) (x .right) (x .says) (x .leaves)
-
-    pub call-refused : {n p : ℕ} → r ≡ checked.Refused n p → WitnessCall rest verdict work witness (the-answer.Refused n p) work witness
-    call-refused e = turned-away _ _ (not-admitted e) refl refl
+pub both-passed : {a b : Checked} → a ≡ Passed → b ≡ Passed → (a else-try b) ≡ Passed
+both-passed {b} e f = tried-passed b e ∙ f
 
 -- a cleared work area is all zeros
-pub work-left : {A : Type 0} (a : A) (work work′ : List ℕ) → work-refusal work ≡ taken → work′ ≡ zeros (length work) → work′ ∷ [] ≡ leaves-work a
+pub work-left : {A : Type 0} (a : A) (work work′ : List ℕ) → work-refusal work ≡ Passed → work′ ≡ zeros (length work) → work′ ∷ [] ≡ leaves-work a
 unfolding leaves-work
 work-left a work work′ e c = ap (λ (l : List ℕ). l ∷ []) (c ∙ ap zeros (work-length work e))
 
--- .. and a cleared witness is empty
-pub nothing-left : (f : Fault) (work witness : List ℕ) {work′ witness′ : List ℕ} → length work ≡ work-bytes → length witness ≡ witness-entries
-    → work′ ≡ zeros (length work) → witness′ ≡ zeros (length witness) → work′ ∷ witness′ ∷ [] ≡ leaves-witness (answer.unclean-by f)
-unfolding leaves-witness witness-of entries
-nothing-left f work witness p q e g = rw (e, g, p, q) refl
+-- A CALL WITH A WITNESS
+-- it is taken: both buffers have the right length, and nothing else turns it away
+pub record Admitted (rest : Checked) (work lent : List ℕ) : Type 0 where
+  pub passed : (work-refusal work else-try witness-refusal lent else-try rest) ≡ Passed
+  pub work-size : length work ≡ work-bytes
+  pub witness-size : length lent ≡ witness-entries
+  pub well : rest ≡ Passed
 
--- .. and a witness as the answer has it
-pub witness-left : {rest : Refusal} {work witness work′ witness′ : List ℕ} → Admitted rest work witness → (a : answer.Answer) → work′ ≡ zeros (length work) → witness′ ≡ entries witness-entries (witness-of a)
-    → work′ ∷ witness′ ∷ [] ≡ leaves-witness a
-unfolding leaves-witness
-witness-left t a e g = rw (e, g, t .work-size) refl
+module _ (rest : Checked) (work lent : List ℕ) {r : Checked} (told : r ≡ (work-refusal work else-try witness-refusal lent else-try rest)) where
+  pub admitted : r ≡ Passed → Admitted rest work lent
+  admitted e =
+      let t = sym told ∙ e in
+      let later = else-try→ (else-try→ t .1) in
+      record { passed = t; work-size = work-length work (else-try→ t .0); witness-size = witness-length lent (later .0); well = later .1 }
 
--- a call by another name of the same refusal
-pub instead : {A R : Type 0} {whole rest : Refusal} {away : ℕ → ℕ → R} {verdict : A → Type 0} {says : A → R} {leaves : A → List (List ℕ)} {before : List (List ℕ)} {r : R} {after : List (List ℕ)}
-    → whole ≡ rest → Call (λ f. f ≡ rest) away verdict says leaves before r after → Call (λ f. f ≡ whole) away verdict says leaves before r after
-instead e (turned-away n p g h k) = turned-away n p (g ∙ sym e) h k
-instead e (answered a g v h k) = answered a (g ∙ sym e) v h k
+  pub call-refused : (verdict : Outcome → Type 0) {n p : ℕ} → r ≡ Refused n p → WitnessCall rest verdict work lent (witness-answer.Refused n p) work lent
+  call-refused verdict e = turned-away _ _ (sym e ∙ told) refl refl
+
+-- numbers that are tried one after another
+pub else-assoc : (a b c : Checked) → ((a else-try b) else-try c) ≡ (a else-try (b else-try c))
+unfolding _else-try_
+else-assoc Passed b c = refl
+else-assoc (Refused n p) b c = refl
+
+refused-first : {a : Checked} (b : Checked) {n p : ℕ} → a ≡ Refused n p → (a else-try b) ≡ Refused n p
+unfolding _else-try_
+refused-first b e = rw e refl
+
+-- a call that tries one more number, behind those that are looked for first
+module _ (first later : Checked) {whole : Checked} (split : whole ≡ (first else-try later)) {work lent : List ℕ} where
+  pub refused-early : (verdict : Outcome → Type 0) {r : Checked} → r ≡ (work-refusal work else-try witness-refusal lent else-try first) → {n p : ℕ} → r ≡ Refused n p
+      → WitnessCall whole verdict work lent (witness-answer.Refused n p) work lent
+  refused-early verdict told e =
+      turned-away _ _ (sym (refused-first later (sym told ∙ e)) ∙ else-assoc (work-refusal work) _ later ∙ rw (else-assoc (witness-refusal lent) first later, split) refl) refl refl
+
+  pub refused-later : (verdict : Outcome → Type 0) → Admitted first work lent → {n p : ℕ} → later ≡ Refused n p → WitnessCall whole verdict work lent (witness-answer.Refused n p) work lent
+  refused-later verdict a e =
+      turned-away _ _ (sym (tried-passed later (a .passed) ∙ e) ∙ else-assoc (work-refusal work) _ later ∙ rw (else-assoc (witness-refusal lent) first later, split) refl) refl refl
+
+  pub admitted-later : Admitted first work lent → later ≡ Passed → Admitted whole work lent
+  admitted-later a e =
+      let w : whole ≡ Passed = split ∙ both-passed (a .well) e in
+      record {
+        passed = both-passed (work-passed work (a .work-size)) (both-passed (witness-passed lent (a .witness-size)) w);
+        work-size = a .work-size;
+        witness-size = a .witness-size;
+        well = w;
+      }
+
+-- what is found is said, and its members are laid into the witness
+pub call-left : {rest : Checked} {work lent : List ℕ} {verdict : Outcome → Type 0} {found : Witnessed} {r : WitnessAnswer} {work′ lent′ : List ℕ}
+    → Admitted rest work lent → Holds verdict found → Leaves work found r work′ lent′ → WitnessCall rest verdict work lent r work′ lent′
+unfolding said-judged leaves-witness witness
+call-left a h l =
+    answered (h .outcome) (sym (a .passed)) (h .right) (l .says ∙ ap witness-answer.Judged (h .says)) (rw (l .cleared, a .work-size, l .laid, h .listed) refl)

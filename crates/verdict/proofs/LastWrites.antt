@@ -13,7 +13,7 @@ use Rattle.words.proofs.Truth.{decide, to-false, and→, →and, and-no-left, a
 use Rattle.verdict.specs.Limits.{transactions, objects}
 use Rattle.verdict.specs.Log.{steps, kind, tx, obj, writes}
 use Rattle.verdict.specs.Clean.{writes-later}
-use Rattle.verdict.specs.Walk.{latest, LastWrites}
+use Rattle.verdict.specs.Inner.LastWrites.{latest, LastWrites}
 
 latest-yes : (n : ℕ) (p : ℕ → Bool) → p n ≡ true → latest (n + 1) p ≡ n + 1
 unfolding latest
@@ -63,13 +63,6 @@ module _ (log : List ℕ) where
             same e f = omega arith
 
   -- whether t writes x later than step i, by what was read of the table
-  module _ {table : List ℕ} (last : LastWrites log (steps log) table) (i t x : ℕ) (h : t ≤ transactions) (k : x < objects) {r : ℕ} (e : r ≡ getD table (t * objects + x) 0) where
-    later : writes-later log i t x ≡ (i + 1 below r)
-    unfolding writes-later
-    later = rw (e, last .entry t x h k) (latest-later (steps log) i (writes log t x))
-
-    pub writes-again : i + 1 < r → writes-later log i t x ≡ true
-    writes-again q = later ∙ →below q
-
-    pub writes-no-more : r ≤ i + 1 → writes-later log i t x ≡ false
-    writes-no-more q = later ∙ →not-below q
+  pub by-last : {table : List ℕ} {t u x y r : ℕ} → LastWrites log (steps log) table → (i : ℕ) → t ≤ transactions → x < objects → u ≡ t → y ≡ x → r ≡ getD table (u * objects + y) 0 → writes-later log i t x ≡ (i + 1 below r)
+  unfolding writes-later
+  by-last {t} {x} last i h k a b e = rw (rw (a, b) at e, last .entry t x h k) (latest-later (steps log) i (writes log t x))

@@ -3,7 +3,7 @@ use mathlib.Core.Path.{_≡_, refl, sym, ap, subst, _∙_}
 use mathlib.Core.Bool.{Bool, true, false, false≢true}
 use mathlib.Core.Logic.{_⊎_, inl, inr, ⊎-elim}
 use mathlib.Core.List.{List, [], _∷_, _++_, append-nil, append-assoc}
-use Prim.Native.Nat.{ℕ, zero, suc, _+_, _*_, _/_, _%_, _≤_, _<_}
+use Prim.Native.Nat.{ℕ, zero, suc, _+_, _-_, _*_, _/_, _%_, _≤_, _<_}
 use native.Mathlib.Omega.{arith}
 use native.Mathlib.Numerals.{add-one}
 use lib.ListN.{length, getD, set, take}
@@ -19,12 +19,12 @@ use Rattle.verdict.specs.Limits.{transactions, objects}
 use Rattle.verdict.specs.Log.{steps, kind, tx, obj, src, reads, committed, writer}
 use Rattle.verdict.specs.Clean.{judged, judged-other, is-clean}
 use Rattle.verdict.specs.Replay.{finds, reads-right, serial, explains-loosely}
-use Rattle.verdict.specs.Walk.{Marked}
-use Rattle.verdict.specs.Placing.{barred, needing, allows, asks, need, ran, Needs, Writes, Placed, Searched, found, missed}
+use Rattle.verdict.specs.Inner.Marks.{Marked}
+use Rattle.verdict.specs.Inner.Placing.{barred, needing, allows, needs-source, need, ran, Needs, Writes, Placed, Searched, found, missed}
 use Rattle.verdict.proofs.WellFormed.{Well}
 use Rattle.verdict.proofs.Versions.{committed-range}
 use Rattle.verdict.proofs.Marks.{ones, mark-clear}
-use Rattle.verdict.proofs.Judged.{judged-read, reader-fails}
+use Rattle.verdict.proofs.JudgedReads.{judged-read, reader-fails}
 
 implies-true : {a b : Bool} → a ≡ true → (a implies b) ≡ b
 unfolding _implies_
@@ -59,54 +59,68 @@ needing-allows e s v p q = go (decide (e is 0)) (decide (e is suc s)) (decide (v
         neither (inr k) = and-no-right _ k
         neither (inl k) = and-no-left _ (or-false z ∙ →isnt (λ (w : e ≡ suc v). isnt→ b (w ∙ ap suc (is→ k))))
 
+-- what a need allows, from the tests that decide it
+module _ {e : ℕ} (v : ℕ) where
+  pub allows-any : e ≡ 0 → allows e v ≡ true
+  unfolding allows
+  allows-any z = →or-left _ (→is z)
+
+  pub allows-it : (e ≡ 0 → ⊥) → e - 1 ≡ v → allows e v ≡ true
+  unfolding allows
+  allows-it n h = →or-right _ (→is (omega arith))
+
+  pub allows-not : (e ≡ 0 → ⊥) → (e - 1 ≡ v → ⊥) → allows e v ≡ false
+  unfolding allows
+  allows-not n h = or-false (→isnt n) ∙ →isnt (λ (k : e ≡ suc v). h (omega arith))
+
 module _ (log : List ℕ) (t x : ℕ) where
-  pub need-more : (i : ℕ) → asks log t x i ≡ true → need log t x (i + 1) ≡ needing (need log t x i) (src log i)
+  pub need-more : (i : ℕ) → needs-source log t x i ≡ true → need log t x (i + 1) ≡ needing (need log t x i) (src log i)
   unfolding need
   need-more i h = rw (add-one i) (if-true _ _ h)
 
-  pub need-same : (i : ℕ) → asks log t x i ≡ false → need log t x (i + 1) ≡ need log t x i
+  pub need-same : (i : ℕ) → needs-source log t x i ≡ false → need log t x (i + 1) ≡ need log t x i
   unfolding need
   need-same i h = rw (add-one i) (if-false _ _ h)
 
   -- the need allows just the sources that every such read names
-  pub need-allows : (n v : ℕ) → ((i : ℕ) → i < n → asks log t x i ≡ true → src log i ≤ transactions) → v ≤ transactions → allows (need log t x n) v ≡ every n (λ i. asks log t x i implies v is src log i)
+  pub need-allows : (n v : ℕ) → ((i : ℕ) → i < n → needs-source log t x i ≡ true → src log i ≤ transactions) → v ≤ transactions → allows (need log t x n) v ≡ every n (λ i. needs-source log t x i implies v is src log i)
   unfolding need every
   need-allows zero v f h = unfold allows in (→or-left _ (→is refl))
-  need-allows (suc n) v f h = go (decide (asks log t x n)) (need-allows n v (λ (i : ℕ) (l : i < n). f i (omega arith)) h)
+  need-allows (suc n) v f h = go (decide (needs-source log t x n)) (need-allows n v (λ (i : ℕ) (l : i < n). f i (omega arith)) h)
     where
-      go : (asks log t x n ≡ true) ⊎ (asks log t x n ≡ false) → allows (need log t x n) v ≡ every n (λ i. asks log t x i implies v is src log i)
-          → allows (if asks log t x n then needing (need log t x n) (src log n) else need log t x n) v ≡ (every n (λ i. asks log t x i implies v is src log i) and (asks log t x n implies v is src log n))
+      go : (needs-source log t x n ≡ true) ⊎ (needs-source log t x n ≡ false) → allows (need log t x n) v ≡ every n (λ i. needs-source log t x i implies v is src log i)
+          → allows (if needs-source log t x n then needing (need log t x n) (src log n) else need log t x n) v ≡ (every n (λ i. needs-source log t x i implies v is src log i) and (needs-source log t x n implies v is src log n))
       go (inl k) rec =
           rw (if-true (needing (need log t x n) (src log n)) (need log t x n) k)
-          (needing-allows (need log t x n) (src log n) v (f n (omega arith) k) h ∙ ap (λ (b : Bool). b and v is src log n) rec ∙ ap (λ (b : Bool). every n (λ i. asks log t x i implies v is src log i) and b) (sym (implies-true k)))
+          (needing-allows (need log t x n) (src log n) v (f n (omega arith) k) h ∙ ap (λ (b : Bool). b and v is src log n) rec ∙ ap (λ (b : Bool). every n (λ i. needs-source log t x i implies v is src log i) and b) (sym (implies-true k)))
       go (inr k) rec =
           rw (if-false (needing (need log t x n) (src log n)) (need log t x n) k)
           (rec ∙ sym (and-true-right _ (→implies (λ q. absurd (not-both q k)))))
 
-  -- whether step i asks for x, from the answers to the questions that decide it
+  -- whether step i makes t need a source of x, from the answers to the questions that decide it
   module _ (i : ℕ) where
-    pub asks-unjudged : judged-other log i ≡ false → asks log t x i ≡ false
-    unfolding asks
-    asks-unjudged j = and-no-left _ (and-no-left _ j)
+    pub needs-none-unjudged : judged-other log i ≡ false → needs-source log t x i ≡ false
+    unfolding needs-source
+    needs-none-unjudged j = and-no-left _ (and-no-left _ j)
 
-    pub asks-other : (tx log i ≡ t → ⊥) → asks log t x i ≡ false
-    unfolding asks
-    asks-other n = and-no-left _ (and-no-right _ (→isnt n))
+    pub needs-none-other : (tx log i ≡ t → ⊥) → needs-source log t x i ≡ false
+    unfolding needs-source
+    needs-none-other n = and-no-left _ (and-no-right _ (→isnt n))
 
-    pub asks-elsewhere : (obj log i ≡ x → ⊥) → asks log t x i ≡ false
-    unfolding asks
-    asks-elsewhere n = and-no-right _ (→isnt n)
+    pub needs-none-elsewhere : (obj log i ≡ x → ⊥) → needs-source log t x i ≡ false
+    unfolding needs-source
+    needs-none-elsewhere n = and-no-right _ (→isnt n)
 
-    asks-all : judged-other log i ≡ true → tx log i ≡ t → obj log i ≡ x → asks log t x i ≡ true
-    unfolding asks
-    asks-all j e f = →and (→and j (→is e)) (→is f)
+    needs-judged : judged-other log i ≡ true → tx log i ≡ t → obj log i ≡ x → needs-source log t x i ≡ true
+    unfolding needs-source
+    needs-judged j e f = →and (→and j (→is e)) (→is f)
 
-    pub asks-here : kind log i ≡ 2 → tx log i ≡ t → obj log i ≡ x → (src log i ≡ t → ⊥) → asks log t x i ≡ committed log t
-    asks-here k e f n = go (decide (committed log (tx log i)))
+    pub needs-if-committed : kind log i ≡ 2 → tx log i ≡ t → obj log i ≡ x → (src log i ≡ t → ⊥) → needs-source log t x i ≡ committed log t
+    needs-if-committed k e f n = go (decide (committed log (tx log i)))
       where
-        go : (committed log (tx log i) ≡ true) ⊎ (committed log (tx log i) ≡ false) → asks log t x i ≡ committed log t
-        go (inl c) = asks-all (judged-read log i k (λ (q : src log i ≡ tx log i). n (q ∙ e)) c) e f ∙ sym (rw e at c)
-        go (inr c) = asks-unjudged (reader-fails log i c) ∙ sym (rw e at c)
+        go : (committed log (tx log i) ≡ true) ⊎ (committed log (tx log i) ≡ false) → needs-source log t x i ≡ committed log t
+        go (inl c) = needs-judged (judged-read log i k (λ (q : src log i ≡ tx log i). n (q ∙ e)) c) e f ∙ sym (rw e at c)
+        go (inr c) = needs-none-unjudged (reader-fails log i c) ∙ sym (rw e at c)
 
 -- WHAT A BEGINNING FINDS
 module _ (log : List ℕ) (x : ℕ) where
@@ -172,12 +186,12 @@ module _ (log : List ℕ) (well : Well transactions log) where
   unfolding judged-other judged reads
   is-read i j = is→ (and→ (and→ j .0) .0)
 
-  asks→ : (t x i : ℕ) → asks log t x i ≡ true → (judged-other log i ≡ true) × (tx log i ≡ t) × (obj log i ≡ x)
-  unfolding asks
-  asks→ t x i k = let r = and→ (and→ k .0) in (r .0, is→ (r .1), is→ (and→ k .1))
+  needs→ : (t x i : ℕ) → needs-source log t x i ≡ true → (judged-other log i ≡ true) × (tx log i ≡ t) × (obj log i ≡ x)
+  unfolding needs-source
+  needs→ t x i k = let r = and→ (and→ k .0) in (r .0, is→ (r .1), is→ (and→ k .1))
 
-  pub asked : (t x i : ℕ) → i < steps log → asks log t x i ≡ true → src log i ≤ transactions
-  asked t x i h k = well .sources i h (is-read i (asks→ t x i k .0))
+  pub source-range : (t x i : ℕ) → i < steps log → needs-source log t x i ≡ true → src log i ≤ transactions
+  source-range t x i h k = well .sources i h (is-read i (needs→ t x i k .0))
 
   reads-its-source : (w : List ℕ) → explains-loosely transactions log w ≡ true → (i : ℕ) → i < steps log → judged-other log i ≡ true → finds log (obj log i) (tx log i) 0 w ≡ src log i
   unfolding explains-loosely reads-right
@@ -195,8 +209,8 @@ module _ (log : List ℕ) (well : Well transactions log) where
     bound : (x : ℕ) → ran log x 0 p ≤ transactions
     bound x = ran-bound log x transactions 0 p (omega arith) (λ a m. committed-range log well a (all→ _ p (placed .members) a m) .1)
 
-    allowed : (t x : ℕ) → allows (need log t x (steps log)) (ran log x 0 p) ≡ every (steps log) (λ i. asks log t x i implies ran log x 0 p is src log i)
-    allowed t x = need-allows log t x (steps log) (ran log x 0 p) (asked t x) (bound x)
+    allowed : (t x : ℕ) → allows (need log t x (steps log)) (ran log x 0 p) ≡ every (steps log) (λ i. needs-source log t x i implies ran log x 0 p is src log i)
+    allowed t x = need-allows log t x (steps log) (ran log x 0 p) (source-range t x) (bound x)
 
     -- t is left: committed, and not placed yet
     module _ (t : ℕ) (c : committed log t ≡ true) (n : member t p ≡ false) where
@@ -210,7 +224,7 @@ module _ (log : List ℕ) (well : Well transactions log) where
           new : tx log i ≡ t → finds log (obj log i) (tx log i) 0 (p ++ t ∷ []) ≡ src log i
           new e =
               let x : ℕ = obj log i in
-              let a : asks log t x i ≡ true = unfold asks in (→and (→and j (→is e)) (→is refl)) in
+              let a : needs-source log t x i ≡ true = unfold needs-source in (→and (→and j (→is e)) (→is refl)) in
               let q = implies→ (every→ _ (sym (allowed t x) ∙ f x (well .object i h (inl (is-read i j)))) i h) a in
               subst (λ (r : ℕ). finds log x r 0 (p ++ t ∷ []) ≡ src log i) (sym e) (finds-behind log x t 0 p [] n ∙ is→ q)
 
@@ -230,9 +244,9 @@ module _ (log : List ℕ) (well : Well transactions log) where
       pub never-placed : (x : ℕ) → allows (need log t x (steps log)) (ran log x 0 p) ≡ false → Never (λ u. explains-loosely transactions log (p ++ t ∷ u))
       never-placed x f u = to-false _ (λ h. not-both (→every _ (λ i l. →implies (λ a. →is (names h i l a)))) (sym (allowed t x) ∙ f))
         where
-          names : explains-loosely transactions log (p ++ t ∷ u) ≡ true → (i : ℕ) → i < steps log → asks log t x i ≡ true → ran log x 0 p ≡ src log i
+          names : explains-loosely transactions log (p ++ t ∷ u) ≡ true → (i : ℕ) → i < steps log → needs-source log t x i ≡ true → ran log x 0 p ≡ src log i
           names h i l a =
-              let q = asks→ t x i a in
+              let q = needs→ t x i a in
               let r : finds log (obj log i) (tx log i) 0 (p ++ t ∷ u) ≡ src log i = reads-its-source (p ++ t ∷ u) h i l (q .0) in
               sym (finds-behind log x t 0 p u n)
               ∙ subst (λ (y : ℕ). finds log y t 0 (p ++ t ∷ u) ≡ src log i) (q .2) (subst (λ (y : ℕ). finds log (obj log i) y 0 (p ++ t ∷ u) ≡ src log i) (q .1) r)

@@ -9,7 +9,7 @@ use lib.ListN.{length, getD, set, replicate, getD-replicate}
 use lib.Seq.{getD-set-same, getD-set-other}
 use Rattle.words.specs.Tests.{_is_, _and_, fails, if_then_else_, some}
 use Rattle.words.proofs.Truth.{decide, →fails, →not-fails, →is, →isnt, is→, isnt→, →some, some-skip, and-no-right, and-true-right, if-true, if-false}
-use Rattle.verdict.specs.Walk.{Marked}
+use Rattle.verdict.specs.Inner.Marks.{Marked}
 
 -- no mark, and nothing passes
 pub unmarked : {n : ℕ} (m : ℕ) (p : ℕ → Bool) → n ≤ m → ((c : ℕ) → p c ≡ false) → Marked n p (replicate m 0)

@@ -1,4 +1,4 @@
--- The edges of a graph in the work area: one edge more, and what is shown of the matrix is what is shown of the graph.
+-- The edges of a graph in a matrix: one edge more, and what is shown of the matrix is what is shown of the graph.
 use mathlib.Core.Path.{_≡_, refl, sym, ap, fun-ext, _∙_}
 use mathlib.Core.Bool.{Bool, true, false, not}
 use mathlib.Core.Logic.{_⊎_, inl, inr}
@@ -10,20 +10,20 @@ use lib.Seq.{getD-set-same, getD-set-other}
 use Rattle.words.specs.Tests.{_is_, _or_, fails, some}
 use Rattle.words.specs.Lists.{zeros}
 use Rattle.graph.specs.Order.{is-order}
-use Rattle.graph.specs.Matrix.{matrix-order, takes-part, joined, told, Sorts}
-use Rattle.graph.specs.Shows.{Shown, order, cycle, members}
-use Rattle.graph.specs.declared.Answer as graph
-use Rattle.graph.specs.declared.Answer.the-variants as graph-answer
+use Rattle.graph.specs.Matrix.{matrix-order, takes-part, joined, Sorts}
+use Rattle.graph.specs.Shows.{Shows}
+use Rattle.graph.specs.declared.Shape.{Shape}
+use Rattle.graph.specs.declared.Shape.the-variants as shapes
+use Rattle.graph.specs.declared.Shown.{Shown}
 use Rattle.words.proofs.Truth.{decide, to-false, not-both, not-fails, same-test, and→, →and, and-true, and-no-left, and-no-right, →or-right, or-no, →fails, fails→, →not-fails, is→, isnt→, →is, →isnt, →upto, if-true, if-false, some-skip, some-next}
 use Rattle.graph.proofs.Marks.{part→, →part, joined→, →joined}
 use Rattle.verdict.specs.Limits.{transactions, work-bytes}
 use Rattle.verdict.specs.Log.{steps, kind, tx, commits, committed}
-use Rattle.verdict.specs.Answer as answer
-use Rattle.verdict.specs.Said.{said, witness as witness-of}
-use Rattle.verdict.specs.Call.{leaves-witness}
-use Rattle.verdict.specs.declared.Answer.{Answer}
-use Rattle.verdict.specs.declared.Answer.the-variants.{Order, Cycle}
-use Rattle.verdict.specs.Walk.{kept, one-edge, no-edge, byte-at, with-edge, Matrix, Marked, Committed, Showing}
+use Rattle.verdict.specs.Outcome.{order, cycle, said, members, OfGraph, shows-order, shows-cycle}
+use Rattle.verdict.specs.Judgement.{Holds}
+use Rattle.verdict.specs.declared.answers.Witnessed.{Witnessed}
+use Rattle.verdict.specs.Inner.Edges.{kept, one-edge, no-edge, byte-at, with-edge, Drawn, answer-of, Showing}
+use Rattle.verdict.specs.Inner.Marks.{Marked, Committed}
 use Rattle.verdict.proofs.WellFormed.{Well}
 use Rattle.verdict.proofs.Versions.{committed-range}
 use Rattle.verdict.proofs.Marks.{mark-step, mark-skip, marked-yes, marked-no}
@@ -68,7 +68,7 @@ apart : (a b s t : ℕ) → (1 ≤ a) × (a ≤ transactions) → (1 ≤ b) × (
     → byte-at a b ≡ byte-at s t → (s ≡ a) × (t ≡ b)
 apart a b s t p q u v e = (omega arith, omega arith)
 
-pub no-edges : {m : List ℕ} → m ≡ zeros work-bytes → Matrix no-edge m
+pub no-edges : {m : List ℕ} → m ≡ zeros work-bytes → Drawn no-edge m
 unfolding zeros no-edge
 no-edges {m} e =
     record {
@@ -76,15 +76,15 @@ no-edges {m} e =
       byte = λ (a b : ℕ) (p : (1 ≤ a) × (a ≤ transactions)) (q : (1 ≤ b) × (b ≤ transactions)). rw e (→not-fails (→is (getD-replicate work-bytes (byte-at a b) 0 0 (omega arith))));
     }
 
-module _ {edge : ℕ → ℕ → Bool} {m : List ℕ} (drawn : Matrix edge m) where
+module _ {edge : ℕ → ℕ → Bool} {m : List ℕ} (drawn : Drawn edge m) where
   -- a matrix of the same edges
-  pub same-edges : {other : ℕ → ℕ → Bool} → ((a b : ℕ) → edge a b ≡ other a b) → Matrix other m
+  pub same-edges : {other : ℕ → ℕ → Bool} → ((a b : ℕ) → edge a b ≡ other a b) → Drawn other m
   same-edges f = record { size = drawn .size; byte = λ a b p q. drawn .byte a b p q ∙ f a b }
 
-  pub edge-more : (s t : ℕ) → s ≤ transactions → t ≤ transactions → Matrix (λ a b. edge a b or one-edge s t a b) (with-edge m s t)
+  pub edge-more : (s t : ℕ) → s ≤ transactions → t ≤ transactions → Drawn (λ a b. edge a b or one-edge s t a b) (with-edge m s t)
   edge-more s t s-high t-high = go (decide (kept s t))
     where
-      go : (kept s t ≡ true) ⊎ (kept s t ≡ false) → Matrix (λ a b. edge a b or one-edge s t a b) (with-edge m s t)
+      go : (kept s t ≡ true) ⊎ (kept s t ≡ false) → Drawn (λ a b. edge a b or one-edge s t a b) (with-edge m s t)
       go (inr n) =
           rw (dropped m s t (λ k. not-both (→kept k) n))
           (same-edges (λ a b. sym (or-no (edge a b) (unfold one-edge in and-no-left _ (and-no-left _ n)))))
@@ -115,25 +115,29 @@ or-assoc false y z = refl
 
 module _ {edge : ℕ → ℕ → Bool} {m : List ℕ} (s t : ℕ) (s-high : s ≤ transactions) (t-high : t ≤ transactions) where
   -- .. and another one
-  pub edges-more : (u v : ℕ) → u ≤ transactions → v ≤ transactions → Matrix edge m
-      → Matrix (λ a b. edge a b or (one-edge s t a b or one-edge u v a b)) (with-edge (with-edge m s t) u v)
+  pub edges-more : (u v : ℕ) → u ≤ transactions → v ≤ transactions → Drawn edge m
+      → Drawn (λ a b. edge a b or (one-edge s t a b or one-edge u v a b)) (with-edge (with-edge m s t) u v)
   edges-more u v u-high v-high drawn = same-edges (edge-more (edge-more drawn s t s-high t-high) u v u-high v-high) (λ a b. sym (or-assoc (edge a b) _ _))
 
 -- a walk over the steps, each of which gives these edges: one step more, with an edge or without
-module _ (edge : ℕ → ℕ → Bool) (gives : ℕ → ℕ → ℕ → Bool) (i : ℕ) {m : List ℕ} (drawn : Matrix (λ a b. edge a b or some i (λ k. gives k a b)) m) where
+module _ (edge : ℕ → ℕ → Bool) (gives : ℕ → ℕ → ℕ → Bool) (i : ℕ) {m : List ℕ} (drawn : Drawn (λ a b. edge a b or some i (λ k. gives k a b)) m) where
   pub walk-edge : (s t : ℕ) → s ≤ transactions → t ≤ transactions → ((a b : ℕ) → gives i a b ≡ one-edge s t a b)
-      → Matrix (λ a b. edge a b or some (i + 1) (λ k. gives k a b)) (with-edge m s t)
+      → Drawn (λ a b. edge a b or some (i + 1) (λ k. gives k a b)) (with-edge m s t)
   walk-edge s t s-high t-high f =
       same-edges (edge-more drawn s t s-high t-high)
       (λ a b. sym (or-assoc (edge a b) _ _) ∙ ap (λ (z : Bool). edge a b or z) (ap (λ (z : Bool). some i (λ k. gives k a b) or z) (sym (f a b)) ∙ sym (some-next i (λ k. gives k a b))))
 
-  pub walk-on : ((a b : ℕ) → gives i a b ≡ false) → Matrix (λ a b. edge a b or some (i + 1) (λ k. gives k a b)) m
+  pub walk-on : ((a b : ℕ) → gives i a b ≡ false) → Drawn (λ a b. edge a b or some (i + 1) (λ k. gives k a b)) m
   walk-on f = same-edges drawn (λ a b. ap (λ (z : Bool). edge a b or z) (sym (some-skip i (λ k. gives k a b) (f a b))))
 
 -- WHO COMMITTED
 pub mark-tells : (part : List ℕ) (t : ℕ) → 1 ≤ t → t ≤ transactions → not (getD part (t - 1) 0 is 0) ≡ takes-part transactions part t
 unfolding takes-part
 mark-tells part t low high = not-fails (getD part (t - 1) 0 is 0) ∙ sym (and-true (→and (→upto low) (→upto high)))
+
+-- .. of the transaction of a step
+pub told-committed : {log part : List ℕ} → Committed log part → {r : Bool} {t u : ℕ} → r ≡ takes-part transactions part t → t ≡ u → r ≡ committed log u
+told-committed {log} marks e f = e ∙ marks .mark _ ∙ ap (committed log) f
 
 module _ (log : List ℕ) (well : Well transactions log) where
   -- one step more: the commit of a transaction, or another step
@@ -170,29 +174,19 @@ module _ (log : List ℕ) (well : Well transactions log) where
           →part transactions part t (record { low = low; high = high; mark = λ z. not-both h (rw e at (marked-no marks (t - 1) (omega arith) z)) })
 
 -- WHAT IS SHOWN
--- how the verdicts say what the graph's answer says
-unfoldable pub retold : graph.Answer → Answer
-retold (graph-answer.Order n) = Order n
-retold (graph-answer.Cycle n) = Cycle n
+-- what `sort` gives, in the words of the verdicts
+pub sorted : {m part : List ℕ} {s : Shown} → Sorts transactions m part s → {r : Witnessed} → r .answer ≡ answer-of (s .shape) (s .count) → r .list ≡ s .list
+    → Showing (takes-part transactions part) (joined transactions m part) r
+sorted {s} t e l = record { shape = s .shape; shown = t .members; right = t .right; says = e ∙ ap (answer-of (s .shape)) (t .counted); listed = l ∙ t .listed }
 
-pub sorted : {m part work witness : List ℕ} {r : graph.Answer} → Sorts transactions m part r witness → {a : Answer} → a ≡ retold r → work ≡ zeros work-bytes
-    → Showing (takes-part transactions part) (joined transactions m part) a work witness
-unfolding leaves-witness
-sorted s e z =
-    record {
-      shown = s .shown;
-      right = s .right;
-      says = e ∙ ap retold (s .answer) ∙ tells (s .shown);
-      leaves = rw (z, s .left, same (s .shown)) refl;
-    }
+-- what is shown of the graph of a log
+graph-holds : {log : List ℕ} {edge : ℕ → ℕ → Bool} {r : Witnessed} → Showing (committed log) edge r → Holds (OfGraph transactions log edge) r
+unfolding said members answer-of
+graph-holds {log} {edge} {r} s = go (s .shape) (s .right) (s .says)
   where
-    tells : (x : Shown) → retold (told x) ≡ said (answer.shown x)
-    tells (order w) = unfold retold told said in refl
-    tells (cycle c) = unfold retold told said in refl
-
-    same : (x : Shown) → members x ≡ witness-of (answer.shown x)
-    same (order w) = unfold members witness-of in refl
-    same (cycle c) = unfold members witness-of in refl
+    go : (shape : Shape) → Shows (suc transactions) (committed log) edge shape (s .shown) → r .answer ≡ answer-of shape (length (s .shown)) → Holds (OfGraph transactions log edge) r
+    go shapes.Order right says = record { outcome = order (s .shown); right = shows-order right; says = says; listed = s .listed }
+    go shapes.Cycle right says = record { outcome = cycle (s .shown); right = shows-cycle right; says = says; listed = s .listed }
 
 -- the edges join different committed transactions
 pub record Between (log : List ℕ) (edge : ℕ → ℕ → Bool) : Type 0 where
@@ -200,7 +194,7 @@ pub record Between (log : List ℕ) (edge : ℕ → ℕ → Bool) : Type 0 where
   pub from : (a b : ℕ) → edge a b ≡ true → committed log a ≡ true
   pub to : (a b : ℕ) → edge a b ≡ true → committed log b ≡ true
 
-module _ {log m part : List ℕ} {edge : ℕ → ℕ → Bool} (marks : Committed log part) (drawn : Matrix edge m) (between : Between log edge) where
+module _ {log m part : List ℕ} {edge : ℕ → ℕ → Bool} (marks : Committed log part) (drawn : Drawn edge m) (between : Between log edge) where
   same-nodes : takes-part transactions part ≡ committed log
   same-nodes = fun-ext (marks .mark)
 
@@ -221,8 +215,8 @@ module _ {log m part : List ℕ} {edge : ℕ → ℕ → Bool} (marks : Committe
           let q : takes-part transactions part b ≡ true = marks .mark b ∙ between .to a b h in
           →joined transactions m part a b (record { differ = between .differ a b h; from = p; to = q; byte = isnt→ (fails→ (drawn .byte a b (range a p) (range b q) ∙ h)) })
 
-  pub shown-of : {r : Answer} {work witness : List ℕ} → Showing (takes-part transactions part) (joined transactions m part) r work witness → Showing (committed log) edge r work witness
-  shown-of s = rw (same-nodes, fun-ext (λ a. fun-ext (same-joined a))) at s
+  pub shown-of : {r : Witnessed} → Showing (takes-part transactions part) (joined transactions m part) r → Holds (OfGraph transactions log edge) r
+  shown-of s = graph-holds (rw (same-nodes, fun-ext (λ a. fun-ext (same-joined a))) at s)
 
   -- the orders of the matrix are those of the graph
   pub order-of : (w : List ℕ) → matrix-order transactions m part w ≡ is-order (suc transactions) (committed log) edge w

@@ -9,9 +9,10 @@ use lib.ListN.{getD, set, replicate, length-set, length-replicate}
 use Rattle.words.specs.Tests.{_is_, _and_, _or_, fails, some}
 use Rattle.words.proofs.Truth.{to-false, and→, →and, and-no-left, and-no-right, →or-left, →or-right, or-no, is→, →is, →isnt}
 use Rattle.verdict.specs.Limits.{transactions, objects}
-use Rattle.verdict.specs.Log.{steps, kind, tx, obj, begins, writes, commits, aborts}
-use Rattle.verdict.specs.Refusal.{tried, begun, ended, wrote, open-refusal}
-use Rattle.verdict.specs.Walk.{open-by-marks, Marked, Written, Noted}
+use Rattle.verdict.specs.Log.{steps, kind, tx, obj, begins, writes, commits, aborts, begun, ended, wrote}
+use Rattle.verdict.specs.Refusal.{tried, open-refusal}
+use Rattle.verdict.specs.Inner.Checking.{open-by-marks, Written, Noted}
+use Rattle.verdict.specs.Inner.Marks.{Marked}
 use Rattle.verdict.proofs.Loosely.{pair-row, pair-column}
 use Rattle.verdict.proofs.Marks.{unmarked, mark-step, mark-skip}
 use Rattle.verdict.proofs.Refused.{tried-same}
@@ -29,16 +30,16 @@ noted-none log m n h k = record {
 }
 
 -- what was read of the mark of t tells
-pub by-mark : {p : ℕ → Bool} {m : List ℕ} {r v : Bool} → Marked (suc transactions) p m → (t : ℕ) → t ≤ transactions → r ≡ fails (getD m t 0 is 0) → r ≡ v → p t ≡ v
-by-mark m t h e q = sym (m .mark t (omega arith)) ∙ sym e ∙ q
+pub by-mark : {p : ℕ → Bool} {m : List ℕ} {r v : Bool} {t u : ℕ} → Marked (suc transactions) p m → t ≤ transactions → u ≡ t → r ≡ fails (getD m u 0 is 0) → r ≡ v → p t ≡ v
+by-mark {t} m h a e q = sym (m .mark t (omega arith)) ∙ sym (rw a at e) ∙ q
 
 -- .. and of the mark of t and x
 wrote-marked : (log : List ℕ) (i : ℕ) (w : List ℕ) → Written log i w → (t x : ℕ) → t ≤ transactions → x < objects → fails (getD w (t * objects + x) 0 is 0) ≡ wrote log i t x
 unfolding Written
 wrote-marked log i w m t x h k = rw (pair-row t x k, pair-column t x k) at (m .mark (t * objects + x) (omega arith))
 
-pub by-pair : (log : List ℕ) (i : ℕ) (w : List ℕ) {r v : Bool} → Written log i w → (t x : ℕ) → t ≤ transactions → x < objects → r ≡ fails (getD w (t * objects + x) 0 is 0) → r ≡ v → wrote log i t x ≡ v
-by-pair log i w m t x h k e q = sym (wrote-marked log i w m t x h k) ∙ sym e ∙ q
+pub by-pair : (log : List ℕ) (i : ℕ) (w : List ℕ) {r v : Bool} {t u x y : ℕ} → Written log i w → t ≤ transactions → x < objects → u ≡ t → y ≡ x → r ≡ fails (getD w (u * objects + y) 0 is 0) → r ≡ v → wrote log i t x ≡ v
+by-pair log i w {t} {x} m h k a b e q = sym (wrote-marked log i w m t x h k) ∙ sym (rw (a, b) at e) ∙ q
 
 -- one step more
 module _ (log : List ℕ) (i : ℕ) {b e w : List ℕ} (noted : Noted log i b e w) where

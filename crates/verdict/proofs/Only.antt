@@ -5,49 +5,67 @@ use mathlib.Core.List.{List, [], _∷_}
 use Prim.Native.Nat.{ℕ}
 use native.Mathlib.Omega.{arith}
 use Rattle.words.specs.First.{dictionary, First}
-use Rattle.graph.specs.Shows.{order}
-use Rattle.verdict.specs.Refusal.{Refusal, taken, refused}
-use Rattle.verdict.specs.Clean.{Fault, Cleanness, clean, unclean, cleanness}
-use Rattle.verdict.specs.Answer.{Answer, shown, unclean-by}
-use Rattle.verdict.specs.Conflict.{Conflict, conflict}
+use Rattle.words.specs.Lists.{zeros, entries}
+use Rattle.verdict.specs.Limits.{transactions}
+use Rattle.verdict.specs.Outcome.{Outcome, order, cycle, unclean, said, members, OfGraph, shows-order, shows-cycle}
+use Rattle.verdict.specs.Judgement.{Holds, ExactIs, over, searched, refused-alone, JudgeAnswer, refused, judged}
+use Rattle.verdict.specs.declared.answers.Witnessed.{Witnessed}
+use Rattle.verdict.specs.declared.answers.Exactness.the-variants.{Over, Searched}
+use Rattle.verdict.specs.declared.answers.ExactWitnessed.{ExactWitnessed}
+use Rattle.verdict.specs.declared.answers.Judgement.{Judgement}
+use Rattle.verdict.specs.declared.answers.Checked.{Checked}
+use Rattle.verdict.specs.declared.answers.Checked.the-variants.{Passed, Refused}
+use Rattle.verdict.specs.declared.answers.Fault.{Fault}
+use Rattle.verdict.specs.declared.answers.Cleanness.{Cleanness}
+use Rattle.verdict.specs.declared.answers.Cleanness.the-variants.{Unclean}
+use Rattle.verdict.specs.Clean.{cleanness}
+use Rattle.verdict.specs.Conflict.{Conflict}
 use Rattle.verdict.specs.Version.{Version, version, version-unclean}
 use Rattle.verdict.specs.Replay.{explains-loosely}
 use Rattle.verdict.specs.Exact.{Exact, exact, exact-none, exact-unclean}
 use Rattle.verdict.specs.Next.{Next, next, next-none}
 use Rattle.verdict.specs.Call.{Call, turned-away, answered, CleanCall, SnapshotCall, WitnessCall, ConflictCall, VersionCall, ExactCall, NextCall}
-use Rattle.verdict.specs.declared.CleanAnswer.{CleanAnswer}
-use Rattle.verdict.specs.declared.SnapshotAnswer.{SnapshotAnswer}
-use Rattle.verdict.specs.declared.Answer.{Answer as CodeAnswer}
+use Rattle.verdict.specs.declared.answers.CleanAnswer.{CleanAnswer}
+use Rattle.verdict.specs.declared.answers.SnapshotAnswer.{SnapshotAnswer}
+use Rattle.verdict.specs.declared.answers.WitnessAnswer.{WitnessAnswer}
+use Rattle.graph.specs.declared.Shape.the-variants as shape
 use Rattle.words.proofs.Truth.{and→}
 use Rattle.words.proofs.Dictionary.{dictionary-same, first-one}
 use Rattle.graph.proofs.Only.{never-first, shows-one}
-use Rattle.verdict.proofs.Judge.{clean-cleanness}
+use Rattle.verdict.proofs.Cleanly.{clean-cleanness, clean≢unclean}
 
-pub clean≢unclean : {c : Cleanness} {f : Fault} → c ≡ clean → c ≡ unclean f → ⊥
-clean≢unclean p q = let z : _≡_ {A = ℕ} 0 1 = cc in omega arith
+order≢cycle : shape.Order ≡ shape.Cycle → ⊥
+order≢cycle e = let z : _≡_ {A = ℕ} 0 1 = cc in omega arith
 
-same-fault : {c : Cleanness} {f g : Fault} → c ≡ unclean f → c ≡ unclean g → f ≡ g
+same-fault : {c : Cleanness} {f g : Fault} → c ≡ Unclean f → c ≡ Unclean g → f ≡ g
 same-fault p q = cc
 
-same-order : {p : List ℕ → Bool} (v w : List ℕ) → First dictionary p v → First dictionary p w → shown (order v) ≡ shown (order w)
-same-order v w f g = ap (λ (u : List ℕ). shown (order u)) (first-one dictionary dictionary-same _ v w f g)
+same-order : {p : List ℕ → Bool} (v w : List ℕ) → First dictionary p v → First dictionary p w → order v ≡ order w
+same-order v w f g = ap order (first-one dictionary dictionary-same _ v w f g)
 
 -- what explains loosely explains a clean log
-loosely-clean : (most : ℕ) (log : List ℕ) {w : List ℕ} {f : Fault} → First dictionary (explains-loosely most log) w → cleanness log ≡ unclean f → ⊥
+loosely-clean : (most : ℕ) (log : List ℕ) {w : List ℕ} {f : Fault} → First dictionary (explains-loosely most log) w → cleanness log ≡ Unclean f → ⊥
 unfolding explains-loosely
 loosely-clean most log f c = clean≢unclean (clean-cleanness log (and→ (and→ (f .one) .0) .0)) c
 
 module _ {most : ℕ} {log : List ℕ} where
-  pub conflict-one : {a b : Answer} → Conflict most log a → Conflict most log b → a ≡ b
-  conflict-one (conflict s) (conflict t) = ap shown (shows-one s t)
+  -- what is shown of a graph is one
+  graph-one : {edge : ℕ → ℕ → Bool} {a b : Outcome} → OfGraph most log edge a → OfGraph most log edge b → a ≡ b
+  graph-one (shows-order s) (shows-order t) = ap order (shows-one s t .1)
+  graph-one (shows-order s) (shows-cycle t) = absurd (order≢cycle (shows-one s t .0))
+  graph-one (shows-cycle s) (shows-order t) = absurd (order≢cycle (sym (shows-one s t .0)))
+  graph-one (shows-cycle s) (shows-cycle t) = ap cycle (shows-one s t .1)
 
-  pub version-one : {a b : Answer} → Version most log a → Version most log b → a ≡ b
-  version-one (version c s) (version d t) = ap shown (shows-one s t)
+  pub conflict-one : {a b : Outcome} → Conflict most log a → Conflict most log b → a ≡ b
+  conflict-one = graph-one
+
+  pub version-one : {a b : Outcome} → Version most log a → Version most log b → a ≡ b
+  version-one (version c s) (version d t) = graph-one s t
   version-one (version c s) (version-unclean d) = absurd (clean≢unclean c d)
   version-one (version-unclean c) (version d t) = absurd (clean≢unclean d c)
-  version-one (version-unclean c) (version-unclean d) = ap unclean-by (same-fault c d)
+  version-one (version-unclean c) (version-unclean d) = ap unclean (same-fault c d)
 
-  pub exact-one : {a b : Answer} → Exact most log a → Exact most log b → a ≡ b
+  pub exact-one : {a b : Outcome} → Exact most log a → Exact most log b → a ≡ b
   exact-one (exact {w = v} f) (exact {w} g) = same-order v w f g
   exact-one (exact f) (exact-none c n) = absurd (never-first n f)
   exact-one (exact f) (exact-unclean c) = absurd (loosely-clean most log f c)
@@ -56,25 +74,61 @@ module _ {most : ℕ} {log : List ℕ} where
   exact-one (exact-none c n) (exact-unclean d) = absurd (clean≢unclean c d)
   exact-one (exact-unclean c) (exact f) = absurd (loosely-clean most log f c)
   exact-one (exact-unclean c) (exact-none d m) = absurd (clean≢unclean d c)
-  exact-one (exact-unclean c) (exact-unclean d) = ap unclean-by (same-fault c d)
+  exact-one (exact-unclean c) (exact-unclean d) = ap unclean (same-fault c d)
 
-  pub next-one : {v : List ℕ} {a b : Answer} → Next most log v a → Next most log v b → a ≡ b
+  pub next-one : {v : List ℕ} {a b : Outcome} → Next most log v a → Next most log v b → a ≡ b
   next-one (next {w = v} f) (next {w} g) = same-order v w f g
   next-one (next f) (next-none n) = absurd (never-first n f)
   next-one (next-none n) (next f) = absurd (never-first n f)
   next-one (next-none n) (next-none m) = refl
 
+-- BY VALUE
+-- answers with the same words and members are one
+pub same-witnessed : (a b : Witnessed) → a .answer ≡ b .answer → a .list ≡ b .list → a ≡ b
+same-witnessed a b p q = λ i. record { answer = p i; list = q i }
+
+pub holds-one : {verdict : Outcome → Type 0} → ((o u : Outcome) → verdict o → verdict u → o ≡ u) → {a b : Witnessed} → Holds verdict a → Holds verdict b → a ≡ b
+holds-one one {a} {b} h k =
+    let e : h .outcome ≡ k .outcome = one _ _ (h .right) (k .right) in
+    same-witnessed a b (h .says ∙ ap said e ∙ sym (k .says)) (h .listed ∙ ap (λ (o : Outcome). entries transactions (members o)) e ∙ sym (k .listed))
+
+exact-is-one : (log : List ℕ) (e f : ExactWitnessed) → ExactIs log e → ExactIs log f → e ≡ f
+exact-is-one log e f (over n s x) (over m t y) =
+    let z : n ≡ m = cc in
+    x ∙ ap (λ (k : ℕ). record { exactness = Over k; list = zeros transactions }) z ∙ sym y
+exact-is-one log e f (over n s x) (searched a t y h) = let z : _≡_ {A = ℕ} 0 1 = cc in absurd (omega arith)
+exact-is-one log e f (searched a s x h) (over m t y) = let z : _≡_ {A = ℕ} 0 1 = cc in absurd (omega arith)
+exact-is-one log e f (searched a s x h) (searched b t y k) =
+    let same = holds-one (λ o u p q. exact-one p q) h k in
+    let said : e .exactness ≡ f .exactness = x ∙ ap (λ (w : Witnessed). Searched (w .answer)) same ∙ sym y in
+    let list : e .list ≡ f .list = ap (λ (w : Witnessed). w .list) same in
+    λ i. record { exactness = said i; list = list i }
+
+-- `judge` has one answer
+pub judge-one : (log : List ℕ) {i j : Judgement} → JudgeAnswer log i → JudgeAnswer log j → i ≡ j
+judge-one log (refused n p g e) (refused m q h f) = let x : n ≡ m = cc in let y : p ≡ q = cc in e ∙ ap (λ (k : ℕ). refused-alone k p) x ∙ ap (refused-alone m) y ∙ sym f
+judge-one log (refused n p g e) (judged h k) = let z : _≡_ {A = ℕ} 0 1 = cc in absurd (omega arith)
+judge-one log (judged h k) (refused n p g e) = let z : _≡_ {A = ℕ} 0 1 = cc in absurd (omega arith)
+judge-one log {i} {j} (judged g h) (judged k l) =
+    let a : i .checked ≡ j .checked = h .passed ∙ sym (l .passed) in
+    let b : i .clean ≡ j .clean = h .clean-is ∙ sym (l .clean-is) in
+    let c : i .snapshot ≡ j .snapshot = h .snapshot-is ∙ sym (l .snapshot-is) in
+    let d : i .conflict ≡ j .conflict = holds-one (λ o u p q. conflict-one p q) (h .conflict-is) (l .conflict-is) in
+    let e : i .version ≡ j .version = holds-one (λ o u p q. version-one p q) (h .version-is) (l .version-is) in
+    let f : i .exact ≡ j .exact = exact-is-one log _ _ (h .exact-is) (l .exact-is) in
+    λ t. record { checked = a t; clean = b t; snapshot = c t; conflict = d t; version = e t; exact = f t }
+
 -- what a call answers and leaves is one, where one refusal is given and its verdict allows one answer
-pub call-one : {A R : Type 0} {given : Refusal → Type 0} {away : ℕ → ℕ → R} {verdict : A → Type 0} {says : A → R} {leaves : A → List (List ℕ)} {before : List (List ℕ)}
-    → ((f g : Refusal) → given f → given g → f ≡ g) → ((a b : A) → verdict a → verdict b → a ≡ b) → {r s : R} {after after′ : List (List ℕ)}
-    → Call given away verdict says leaves before r after → Call given away verdict says leaves before s after′ → (r ≡ s) × (after ≡ after′)
+pub call-one : {A R : Type 0} {applies : Checked → Type 0} {away : ℕ → ℕ → R} {verdict : A → Type 0} {says : A → R} {leaves : A → List (List ℕ)} {lent : List (List ℕ)}
+    → ((f g : Checked) → applies f → applies g → f ≡ g) → ((a b : A) → verdict a → verdict b → a ≡ b) → {r s : R} {left left′ : List (List ℕ)}
+    → Call applies away verdict says leaves lent r left → Call applies away verdict says leaves lent s left′ → (r ≡ s) × (left ≡ left′)
 call-one {away} sole one (turned-away n p e x y) (turned-away m q g u v) =
-    let h : refused n p ≡ refused m q = sole _ _ e g in
+    let h : Refused n p ≡ Refused m q = sole _ _ e g in
     let i : n ≡ m = cc in
     let j : p ≡ q = cc in
     (x ∙ ap (λ (z : ℕ). away z p) i ∙ ap (away m) j ∙ sym u, y ∙ sym v)
-call-one sole one (turned-away n p e x y) (answered a g h u v) = let i : refused n p ≡ taken = sole _ _ e g in let k : _≡_ {A = ℕ} 0 1 = cc in absurd (omega arith)
-call-one sole one (answered a g h u v) (turned-away n p e x y) = let i : refused n p ≡ taken = sole _ _ e g in let k : _≡_ {A = ℕ} 0 1 = cc in absurd (omega arith)
+call-one sole one (turned-away n p e x y) (answered a g h u v) = let i : Refused n p ≡ Passed = sole _ _ e g in let k : _≡_ {A = ℕ} 0 1 = cc in absurd (omega arith)
+call-one sole one (answered a g h u v) (turned-away n p e x y) = let i : Refused n p ≡ Passed = sole _ _ e g in let k : _≡_ {A = ℕ} 0 1 = cc in absurd (omega arith)
 call-one {says} {leaves} sole one (answered a g h u v) (answered b g′ h′ u′ v′) =
     let z : a ≡ b = one a b h h′ in
     (u ∙ ap says z ∙ sym u′, v ∙ ap leaves z ∙ sym v′)
@@ -95,11 +149,11 @@ module _ (log : List ℕ) {work : List ℕ} where
   snapshot-call-one p q = let e = call-one (λ f g h k. h ∙ sym k) (λ a b h k. h ∙ sym k) p q in (e .0, buffer-one (e .1))
 
 -- the calls with a witness, where the verdict allows one answer
-pub witness-call-one : (refusal : Refusal) {verdict : Answer → Type 0} {work witness : List ℕ} → ((a b : Answer) → verdict a → verdict b → a ≡ b)
-    → {r s : CodeAnswer} {v w x y : List ℕ} → WitnessCall refusal verdict work witness r v x → WitnessCall refusal verdict work witness s w y → (r ≡ s) × (v ≡ w) × (x ≡ y)
+pub witness-call-one : (refusal : Checked) {verdict : Outcome → Type 0} {work witness : List ℕ} → ((a b : Outcome) → verdict a → verdict b → a ≡ b)
+    → {r s : WitnessAnswer} {v w x y : List ℕ} → WitnessCall refusal verdict work witness r v x → WitnessCall refusal verdict work witness s w y → (r ≡ s) × (v ≡ w) × (x ≡ y)
 witness-call-one refusal one p q = let e = call-one (λ f g h k. h ∙ sym k) one p q in let f = buffers-one (e .1) in (e .0, f .0, f .1)
 
-module _ (log : List ℕ) {work witness : List ℕ} {r s : CodeAnswer} {v w x y : List ℕ} where
+module _ (log : List ℕ) {work witness : List ℕ} {r s : WitnessAnswer} {v w x y : List ℕ} where
   pub conflict-call-one : ConflictCall log work witness r v x → ConflictCall log work witness s w y → (r ≡ s) × (v ≡ w) × (x ≡ y)
   conflict-call-one = witness-call-one _ (λ a b h k. conflict-one h k)
 
@@ -109,5 +163,5 @@ module _ (log : List ℕ) {work witness : List ℕ} {r s : CodeAnswer} {v w x y 
   pub exact-call-one : ExactCall log work witness r v x → ExactCall log work witness s w y → (r ≡ s) × (v ≡ w) × (x ≡ y)
   exact-call-one = witness-call-one _ (λ a b h k. exact-one h k)
 
-  pub next-call-one : (given : List ℕ) → NextCall log given work witness r v x → NextCall log given work witness s w y → (r ≡ s) × (v ≡ w) × (x ≡ y)
-  next-call-one given = witness-call-one _ (λ a b h k. next-one h k)
+  pub next-call-one : (order : List ℕ) → NextCall log order work witness r v x → NextCall log order work witness s w y → (r ≡ s) × (v ≡ w) × (x ≡ y)
+  next-call-one handed-in = witness-call-one _ (λ a b h k. next-one h k)

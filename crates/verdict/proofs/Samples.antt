@@ -11,22 +11,33 @@ use Rattle.words.specs.First.{dictionary, shorter, later}
 use Rattle.words.specs.Listed.{Listed}
 use Rattle.graph.specs.Order.{once-each, keeps, is-order}
 use Rattle.graph.specs.Cycle.{leads, is-cycle}
-use Rattle.graph.specs.Shows.{order, cycle}
+use Rattle.verdict.specs.Outcome.{order, cycle, Outcome, unclean}
 use Rattle.verdict.specs.Limits.{transactions}
-use Rattle.verdict.specs.Log.{steps, kind, tx, obj, src, begins, reads, writes, commits, aborts, committed, aborted, writer, write-one-object, begin-step, commit-step, commits-writer, committed-count}
-use Rattle.verdict.specs.Refusal.{Refusal, taken, refused, _at_when_, _else-try_, tried, object-allowed, source-allowed, begun, ended, wrote, range-refusal, life-refusal, source-refusal, step-refusal, open-refusal, log-refusal}
-use Rattle.verdict.specs.Clean.{Fault, aborted-at, unfinal-at, Cleanness, clean, unclean, judged, judged-other, writes-later, final-source, faulty-read, is-clean, fault-at, cleanness}
-use Rattle.verdict.specs.Snapshot.{Snapshot, snapshot, read-at, write-at-with, snapshot-step, last-committed, wrong-read, overlap, clash, wrong-commit, wrong-step, snapshot-fault, snapshot-verdict}
-use Rattle.verdict.specs.Answer.{Answer, shown, unclean-by}
-use Rattle.verdict.specs.Conflict.{touches, meet, conflict-edge, Conflict}
-use Rattle.verdict.specs.Version.{after, next-commit, next-version, writer-to-next, source-to-reader, reader-to-next, version-edge, Version}
+use Rattle.verdict.specs.Log.{steps, kind, tx, obj, src, begins, reads, writes, commits, aborts, committed, aborted, writer, write-one-object, begin-step, commit-step, commits-writer, committed-count, begun, ended, wrote}
+use Rattle.verdict.specs.declared.answers.Checked.{Checked}
+use Rattle.verdict.specs.declared.answers.Checked.the-variants.{Passed, Refused}
+use Rattle.verdict.specs.Refusal.{_at_when_, _else-try_, tried, object-allowed, source-allowed, range-refusal, life-refusal, source-refusal, step-refusal, open-refusal, log-refusal}
+use Rattle.verdict.specs.declared.answers.Fault.{Fault}
+use Rattle.verdict.specs.declared.answers.Fault.the-variants.{Aborted, Unfinal}
+use Rattle.verdict.specs.declared.answers.Cleanness.{Cleanness}
+use Rattle.verdict.specs.declared.answers.Cleanness.the-variants.{Yes, Unclean}
+use Rattle.verdict.specs.Clean.{judged, judged-other, writes-later, final-source, faulty-read, is-clean, fault-at, cleanness}
+use Rattle.verdict.specs.declared.answers.Snapshot.{Snapshot}
+use Rattle.verdict.specs.declared.answers.Snapshot.the-variants as snapshot-is
+use Rattle.verdict.specs.declared.answers.Snapshot.the-variants.{Read, Write}
+use Rattle.verdict.specs.Snapshot.{snapshot-step, last-commit, last-committed, wrong-read, overlap, clash, wrong-commit, wrong-step, snapshot-fault, snapshot-verdict}
+use Rattle.verdict.specs.Inner.ConflictEdges.{touches, meet-somehow, plain-conflict}
+use Rattle.verdict.specs.Conflict.{Conflict}
+use Rattle.verdict.specs.Version.{versions-from, next-commit, next-version, Version}
+use Rattle.verdict.specs.Inner.VersionEdges.{from-writer, from-source, from-reader, plain-version}
 use Rattle.verdict.specs.Replay.{finds, reads-right, writers-in-order, serial, explains-loosely, explains}
 use Rattle.verdict.specs.Exact.{Exact}
+use Rattle.verdict.specs.Witness.{handed}
 use Rattle.verdict.specs.Next.{up-to-zero, from-zero, list-refusal, Next}
 use Rattle.words.proofs.Search.{ascending, put-before, each-before, tuples, short-tuples, sift}
 use Rattle.graph.proofs.Judge.{shown-by, nodes, judge-graph}
 use Rattle.verdict.proofs.WellFormed.{well-formed}
-use Rattle.verdict.proofs.Judge.{first-or-none, as-shown, if-clean, orders, judge-conflict, judge-version, judge-exact, judge-next, conflict-right, version-right, exact-right, next-right, orders-listed, loosely-serial, explains-serial}
+use Rattle.verdict.proofs.Computed.{first-or-none, outcome-of, outcome-shown, if-clean, orders, judge-conflict, judge-version, judge-exact, judge-next, conflict-right, version-right, exact-right, next-right, orders-listed, loosely-serial, explains-serial}
 
 -- THE SHORT FORM OF A STEP
 pub b : ℕ → List ℕ → List ℕ
@@ -51,48 +62,48 @@ abbrev pub y : ℕ
 y = 1
 
 -- ALL THAT IS SAID OF A LOG
-pub data Outcome : Type 0 where
-  turned-away : ℕ → ℕ → Outcome
+pub data Expected : Type 0 where
+  turned-away : ℕ → ℕ → Expected
   -- clean, snapshot, conflict, version, exact; every explaining order and every loosely explaining one;
   -- and what "next" says after each order handed in, `none` for number 14
-  answered : Cleanness → Snapshot → Option Answer → Option Answer → Answer → List (List ℕ) → List (List ℕ) → List (Option Answer) → Outcome
+  answered : Cleanness → Snapshot → Option Outcome → Option Outcome → Outcome → List (List ℕ) → List (List ℕ) → List (Option Outcome) → Expected
 
 pub record Sample : Type 0 where
   pub log : List ℕ
   pub handed-in : List (List ℕ)
-  pub expected : Outcome
+  pub expected : Expected
 
-unfoldable pub next-by : Refusal → Answer → Option Answer
-next-by taken n = just n
-next-by (refused number place) n = none
+unfoldable pub next-by : Checked → Outcome → Option Outcome
+next-by Passed n = just n
+next-by (Refused number place) n = none
 
-unfoldable pub next-after : List ℕ → List ℕ → Option Answer
+unfoldable pub next-after : List ℕ → List ℕ → Option Outcome
 next-after log given = next-by (list-refusal transactions log given) (judge-next transactions log (up-to-zero given))
 
-unfoldable pub outcome-by : Refusal → List ℕ → List (List ℕ) → Outcome
-outcome-by (refused n place) log given = turned-away n place
-outcome-by taken log given =
+unfoldable pub outcome-by : Checked → List ℕ → List (List ℕ) → Expected
+outcome-by (Refused n place) log given = turned-away n place
+outcome-by Passed log given =
     answered (cleanness log) (snapshot-verdict transactions log) (judge-conflict transactions log) (judge-version transactions log) (judge-exact transactions log)
-    (orders transactions log (explains transactions log)) (orders transactions log (explains-loosely transactions log)) (map (λ v. next-after log (entries 128 v)) given)
+    (orders transactions log (explains transactions log)) (orders transactions log (explains-loosely transactions log)) (map (λ v. next-after log (handed v)) given)
 
-unfoldable pub outcome : Sample → Outcome
+unfoldable pub outcome : Sample → Expected
 outcome s = outcome-by (log-refusal (s .log)) (s .log) (s .handed-in)
 
 -- THE TABLE
-sample : List ℕ → List (List ℕ) → Outcome → Sample
+sample : List ℕ → List (List ℕ) → Expected → Sample
 sample l g o = record { log = l; handed-in = g; expected = o }
 
-ordered : List ℕ → Option Answer
-ordered l = just (shown (order l))
+ordered : List ℕ → Option Outcome
+ordered l = just (order l)
 
-ring : List ℕ → Option Answer
-ring l = just (shown (cycle l))
+ring : List ℕ → Option Outcome
+ring l = just (cycle l)
 
-no-order : Option Answer
-no-order = just Answer.none
+no-order : Option Outcome
+no-order = just Outcome.none
 
-fault : Fault → Option Answer
-fault f = just (unclean-by f)
+fault : Fault → Option Outcome
+fault f = just (unclean f)
 
 1′ : List ℕ
 1′ = 1 ∷ []
@@ -119,34 +130,34 @@ pub table : List Sample
 table =
     -- the empty log
     sample [] ([] ∷ 1′ ∷ [])
-    (answered clean snapshot (ordered []) (ordered []) (shown (order [])) ([] ∷ []) ([] ∷ []) (no-order ∷ none ∷ []))
+    (answered Yes snapshot-is.Yes (ordered []) (ordered []) (order []) ([] ∷ []) ([] ∷ []) (no-order ∷ none ∷ []))
     -- the log that 01 prints
     ∷ sample (b 1 (b 2 (r 1 y 0 (r 2 x 0 (w 1 x (w 2 y (c 1 (c 2 [])))))))) ([] ∷ 12′ ∷ [])
-    (answered clean snapshot (ring 12′) (ring 12′) Answer.none [] [] (none ∷ none ∷ []))
+    (answered Yes snapshot-is.Yes (ring 12′) (ring 12′) Outcome.none [] [] (none ∷ none ∷ []))
     -- example 2.12
     ∷ sample (b 1 (w 1 x (c 1 (b 2 (w 2 x (c 2 (b 3 (r 3 x 1 (c 3 []))))))))) (132′ ∷ 123′ ∷ 213′ ∷ (1 ∷ 3 ∷ 2 ∷ 0 ∷ 5 ∷ []) ∷ [] ∷ [])
-    (answered clean (read-at 7) (ordered 123′) (ordered 132′) (shown (order 132′)) (132′ ∷ []) (132′ ∷ 213′ ∷ []) (no-order ∷ none ∷ none ∷ none ∷ none ∷ []))
+    (answered Yes (Read 7) (ordered 123′) (ordered 132′) (order 132′) (132′ ∷ []) (132′ ∷ 213′ ∷ []) (no-order ∷ none ∷ none ∷ none ∷ none ∷ []))
     -- example 2.13
     ∷ sample (b 1 (w 1 x (w 1 y (c 1 (b 2 (w 2 x (w 2 y (c 2 (b 3 (r 3 x 2 (r 3 y 1 (c 3 [])))))))))))) (123′ ∷ [])
-    (answered clean (read-at 10) (ordered 123′) (ring (2 ∷ 3 ∷ [])) Answer.none [] [] (none ∷ []))
+    (answered Yes (Read 10) (ordered 123′) (ring (2 ∷ 3 ∷ [])) Outcome.none [] [] (none ∷ []))
     -- a lost update
     ∷ sample (b 1 (b 2 (r 1 x 0 (r 2 x 0 (w 1 x (w 2 x (c 1 (c 2 [])))))))) []
-    (answered clean (write-at-with 7 1) (ring 12′) (ring 12′) Answer.none [] [] [])
+    (answered Yes (Write 7 1) (ring 12′) (ring 12′) Outcome.none [] [] [])
     -- a read from a transaction that aborts
     ∷ sample (b 1 (w 1 x (b 2 (r 2 x 1 (c 2 (a 1 [])))))) ((2 ∷ []) ∷ [])
-    (answered (unclean (aborted-at 3)) (read-at 3) (ordered (2 ∷ [])) (fault (aborted-at 3)) (unclean-by (aborted-at 3)) [] [] (none ∷ []))
+    (answered (Unclean (Aborted 3)) (Read 3) (ordered (2 ∷ [])) (fault (Aborted 3)) (unclean (Aborted 3)) [] [] (none ∷ []))
     -- a read of a value that is overwritten
     ∷ sample (b 1 (w 1 x (b 2 (r 2 x 1 (w 1 x (c 1 (c 2 []))))))) []
-    (answered (unclean (unfinal-at 3)) (read-at 3) (ring 12′) (fault (unfinal-at 3)) (unclean-by (unfinal-at 3)) [] [] [])
+    (answered (Unclean (Unfinal 3)) (Read 3) (ring 12′) (fault (Unfinal 3)) (unclean (Unfinal 3)) [] [] [])
     -- three orders
     ∷ sample (b 1 (w 1 x (c 1 (b 2 (r 2 x 1 (c 2 (b 3 (w 3 y (c 3 []))))))))) (123′ ∷ 132′ ∷ 312′ ∷ 213′ ∷ [])
-    (answered clean snapshot (ordered 123′) (ordered 123′) (shown (order 123′)) (123′ ∷ 132′ ∷ 312′ ∷ []) (123′ ∷ 132′ ∷ 312′ ∷ []) (ordered 132′ ∷ ordered 312′ ∷ no-order ∷ none ∷ []))
+    (answered Yes snapshot-is.Yes (ordered 123′) (ordered 123′) (order 123′) (123′ ∷ 132′ ∷ 312′ ∷ []) (123′ ∷ 132′ ∷ 312′ ∷ []) (ordered 132′ ∷ ordered 312′ ∷ no-order ∷ none ∷ []))
     -- ours: commit order is not the order of the writes
     ∷ sample (b 1 (b 2 (w 1 x (w 2 x (c 2 (c 1 [])))))) []
-    (answered clean (write-at-with 5 2) (ordered 12′) (ordered 21′) (shown (order 12′)) (21′ ∷ []) (12′ ∷ 21′ ∷ []) [])
+    (answered Yes (Write 5 2) (ordered 12′) (ordered 21′) (order 12′) (21′ ∷ []) (12′ ∷ 21′ ∷ []) [])
     -- ours: a transaction that reads and then writes has no edge to itself
     ∷ sample (b 1 (r 1 x 0 (w 1 x (c 1 [])))) []
-    (answered clean snapshot (ordered 1′) (ordered 1′) (shown (order 1′)) (1′ ∷ []) (1′ ∷ []) [])
+    (answered Yes snapshot-is.Yes (ordered 1′) (ordered 1′) (order 1′) (1′ ∷ []) (1′ ∷ []) [])
     -- turned away
     ∷ sample (b 1 (w 1 x (r 1 x 0 (c 1 [])))) [] (turned-away 10 2)
     ∷ sample (b 1 (r 1 x 1 (c 1 []))) [] (turned-away 9 1)
@@ -157,15 +168,15 @@ table =
 pub table-right : map outcome table ≡ map (λ s. s .expected) table
 unfolding b r w c a sample ordered ring no-order fault 1′ 12′ 21′ 123′ 132′ 213′ 312′ table outcome outcome-by next-by next-after
     _is_ _below_ _upto_ _and_ _or_ _implies_ fails if_then_else_ some every count lowest highest
-    member all distinct before zeros entries dictionary shorter later once-each keeps is-order leads is-cycle
+    member all distinct before zeros entries handed dictionary shorter later once-each keeps is-order leads is-cycle
     steps kind tx obj src begins reads writes commits aborts committed aborted writer write-one-object begin-step commit-step commits-writer committed-count
     _at_when_ _else-try_ tried object-allowed source-allowed begun ended wrote range-refusal life-refusal source-refusal step-refusal open-refusal log-refusal
     judged judged-other writes-later final-source faulty-read is-clean fault-at cleanness
-    snapshot-step last-committed wrong-read overlap clash wrong-commit wrong-step snapshot-fault snapshot-verdict
-    touches meet conflict-edge after next-commit next-version writer-to-next source-to-reader reader-to-next version-edge
+    snapshot-step last-commit last-committed wrong-read overlap clash wrong-commit wrong-step snapshot-fault snapshot-verdict
+    touches meet-somehow plain-conflict versions-from next-commit next-version from-writer from-source from-reader plain-version
     finds reads-right writers-in-order serial explains-loosely explains up-to-zero from-zero list-refusal
     ascending put-before each-before tuples short-tuples sift shown-by nodes judge-graph
-    first-or-none as-shown if-clean orders judge-conflict judge-version judge-exact judge-next
+    first-or-none outcome-of outcome-shown if-clean orders judge-conflict judge-version judge-exact judge-next
 table-right = refl
 
 -- WHAT IT SAYS OF ENTRY k
@@ -175,12 +186,12 @@ no-sample = record { log = []; handed-in = []; expected = outcome (record { log 
 pub sample-right : (k : ℕ) → outcome (getD table k no-sample) ≡ getD table k no-sample .expected
 unfolding no-sample outcome
 sample-right k =
-    sym (List·getD-map outcome table k no-sample) ∙ ap (λ (l : List Outcome). getD l k (outcome no-sample)) table-right
+    sym (List·getD-map outcome table k no-sample) ∙ ap (λ (l : List Expected). getD l k (outcome no-sample)) table-right
     ∙ List·getD-map (λ s. s .expected) table k no-sample
 
 -- an answered outcome, in the terms of the definitions
-pub record Means (log : List ℕ) (cl : Cleanness) (sn : Snapshot) (co ve ex : Answer) (li lo : List (List ℕ)) : Type 0 where
-  pub taken-log : log-refusal log ≡ taken
+pub record Means (log : List ℕ) (cl : Cleanness) (sn : Snapshot) (co ve ex : Outcome) (li lo : List (List ℕ)) : Type 0 where
+  pub passed : log-refusal log ≡ Passed
   pub clean-part : cleanness log ≡ cl
   pub snapshot-part : snapshot-verdict transactions log ≡ sn
   pub conflict-part : Conflict transactions log co
@@ -189,7 +200,7 @@ pub record Means (log : List ℕ) (cl : Cleanness) (sn : Snapshot) (co ve ex : A
   pub list-part : Listed (explains transactions log) li
   pub loose-part : Listed (explains-loosely transactions log) lo
 
-pub outcome-means : (s : Sample) {cl : Cleanness} {sn : Snapshot} {co ve ex : Answer} {li lo : List (List ℕ)} {ne : List (Option Answer)}
+pub outcome-means : (s : Sample) {cl : Cleanness} {sn : Snapshot} {co ve ex : Outcome} {li lo : List (List ℕ)} {ne : List (Option Outcome)}
     → outcome s ≡ answered cl sn (just co) (just ve) ex li lo ne → Means (s .log) cl sn co ve ex li lo
 unfolding outcome outcome-by
 outcome-means s {cl} {sn} {co} {ve} {ex} {li} {lo} {ne} e = go (log-refusal (s .log)) refl e
@@ -197,14 +208,14 @@ outcome-means s {cl} {sn} {co} {ve} {ex} {li} {lo} {ne} e = go (log-refusal (s .
     log : List ℕ
     log = s .log
 
-    go : (o : Refusal) → log-refusal log ≡ o → outcome-by o log (s .handed-in) ≡ answered cl sn (just co) (just ve) ex li lo ne → Means log cl sn co ve ex li lo
-    go (refused n p) h f = let z : _≡_ {A = ℕ} 0 1 = cc in absurd (omega arith)
-    go taken h f =
+    go : (o : Checked) → log-refusal log ≡ o → outcome-by o log (s .handed-in) ≡ answered cl sn (just co) (just ve) ex li lo ne → Means log cl sn co ve ex li lo
+    go (Refused n p) h f = let z : _≡_ {A = ℕ} 0 1 = cc in absurd (omega arith)
+    go Passed h f =
         let z : judge-exact transactions log ≡ ex = cc in
         let u : orders transactions log (explains transactions log) ≡ li = cc in
         let v : orders transactions log (explains-loosely transactions log) ≡ lo = cc in
         record {
-          taken-log = h;
+          passed = h;
           clean-part = cc;
           snapshot-part = cc;
           conflict-part = conflict-right log (well-formed log h) co cc;
@@ -215,20 +226,27 @@ outcome-means s {cl} {sn} {co} {ve} {ex} {li} {lo} {ne} e = go (log-refusal (s .
         }
 
 -- a refused one
-pub refused-means : (s : Sample) (n place : ℕ) → outcome s ≡ turned-away n place → log-refusal (s .log) ≡ refused n place
+pub refused-means : (s : Sample) (n place : ℕ) → outcome s ≡ turned-away n place → log-refusal (s .log) ≡ Refused n place
 unfolding outcome outcome-by
 refused-means s n place e = go (log-refusal (s .log)) e
   where
-    go : (o : Refusal) → outcome-by o (s .log) (s .handed-in) ≡ turned-away n place → o ≡ refused n place
-    go (refused m p) f = cc
-    go taken f = let z : _≡_ {A = ℕ} 0 1 = cc in absurd (omega arith)
+    go : (o : Checked) → outcome-by o (s .log) (s .handed-in) ≡ turned-away n place → o ≡ Refused n place
+    go (Refused m p) f = cc
+    go Passed f = let z : _≡_ {A = ℕ} 0 1 = cc in absurd (omega arith)
 
 -- an order handed in that is on the list gets the answer that "next" asks for
-pub next-means : (log given : List ℕ) (n : Answer) → next-after log given ≡ just n → (list-refusal transactions log given ≡ taken) × Next transactions log (up-to-zero given) n
+pub next-means : (log given : List ℕ) (n : Outcome) → next-after log given ≡ just n → (list-refusal transactions log given ≡ Passed) × Next transactions log (up-to-zero given) n
 unfolding next-after next-by
 next-means log given n e = go (list-refusal transactions log given) refl e
   where
-    go : (o : Refusal) → list-refusal transactions log given ≡ o → next-by o (judge-next transactions log (up-to-zero given)) ≡ just n
-        → (list-refusal transactions log given ≡ taken) × Next transactions log (up-to-zero given) n
-    go taken h f = let z : judge-next transactions log (up-to-zero given) ≡ n = cc in (h, rw z at (next-right transactions log (up-to-zero given)))
-    go (refused m p) h f = let z : _≡_ {A = ℕ} 0 1 = cc in absurd (omega arith)
+    go : (o : Checked) → list-refusal transactions log given ≡ o → next-by o (judge-next transactions log (up-to-zero given)) ≡ just n
+        → (list-refusal transactions log given ≡ Passed) × Next transactions log (up-to-zero given) n
+    go Passed h f = let z : judge-next transactions log (up-to-zero given) ≡ n = cc in (h, rw z at (next-right transactions log (up-to-zero given)))
+    go (Refused m p) h f = let z : _≡_ {A = ℕ} 0 1 = cc in absurd (omega arith)
+
+-- the log that 01 prints, entry 1 of the table, for whoever prints its report
+pub printed-means :
+    Means (1 ∷ 1 ∷ 0 ∷ 0 ∷ 1 ∷ 2 ∷ 0 ∷ 0 ∷ 2 ∷ 1 ∷ 1 ∷ 0 ∷ 2 ∷ 2 ∷ 0 ∷ 0 ∷ 3 ∷ 1 ∷ 0 ∷ 0 ∷ 3 ∷ 2 ∷ 1 ∷ 0 ∷ 4 ∷ 1 ∷ 0 ∷ 0 ∷ 4 ∷ 2 ∷ 0 ∷ 0 ∷ [])
+    Yes snapshot-is.Yes (cycle (1 ∷ 2 ∷ [])) (cycle (1 ∷ 2 ∷ [])) Outcome.none [] []
+unfolding table sample b r w c ring 12′
+printed-means = outcome-means (getD table 1 no-sample) (sample-right 1)

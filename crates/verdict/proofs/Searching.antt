@@ -7,28 +7,29 @@ use native.Mathlib.Omega.{arith}
 use lib.ListN.{length, getD, set, take, replicate, getD-replicate}
 use lib.Seq.{length-take-le, take-suc}
 use native.Mathlib.Numerals.{add-one}
-use Rattle.words.specs.Tests.{_is_, _and_, fails, count}
+use Rattle.words.specs.Tests.{_is_, fails, count}
 use Rattle.words.specs.Lists.{member, all, distinct, zeros, entries}
 use Rattle.words.specs.First.{dictionary, First}
-use Rattle.graph.specs.Shows.{order}
-use Rattle.words.proofs.Truth.{and-true-right, →fails, count-same}
-use Rattle.verdict.specs.Limits.{transactions, most-searched, witness-entries}
+use Rattle.verdict.specs.Outcome.{order, none, said, members}
+use Rattle.verdict.specs.Judgement.{Holds}
+use Rattle.words.proofs.Truth.{and-true-right, →fails, →below, →not-below, count-same}
+use Rattle.verdict.specs.Limits.{transactions, most-searched}
 use Rattle.verdict.specs.Log.{committed, committed-count}
-use Rattle.verdict.specs.Refusal.{taken, log-refusal}
+use Rattle.verdict.specs.declared.answers.Checked.the-variants.{Passed, Refused}
+use Rattle.verdict.specs.Refusal.{log-refusal, search-refusal}
 use Rattle.verdict.specs.Clean.{is-clean}
 use Rattle.verdict.specs.Replay.{explains-loosely}
-use Rattle.verdict.specs.Answer as paper
-use Rattle.verdict.specs.Exact.{exact, exact-none}
-use Rattle.verdict.specs.Said.{said, witness}
-use Rattle.verdict.specs.Walk.{Marked}
-use Rattle.verdict.specs.Placing.{ran, Placed, Searched, found, missed, Found}
-use Rattle.verdict.specs.declared.Answer.the-variants.{Order, Nothing}
-use Rattle.verdict.proofs.Judge.{clean-cleanness}
+use Rattle.verdict.specs.Exact.{Exact, exact, exact-none}
+use Rattle.verdict.specs.Inner.Marks.{Marked}
+use Rattle.verdict.specs.Inner.Placing.{ran, Placed, Searched, found, missed}
+use Rattle.verdict.specs.declared.answers.Answer.the-variants.{Order}
+use Rattle.verdict.proofs.Refused.{when-yes, when-no}
+use Rattle.verdict.proofs.Cleanly.{clean-cleanness}
 use Rattle.verdict.proofs.WellFormed.{well-formed}
 use Rattle.verdict.proofs.Counted.{committed-fit}
 
 -- no more are left than the search takes
-pub few-enough : (log marks : List ℕ) → log-refusal log ≡ taken → committed-count log ≤ most-searched → Marked (suc transactions) (committed log) marks
+pub few-enough : (log marks : List ℕ) → log-refusal log ≡ Passed → committed-count log ≤ most-searched → Marked (suc transactions) (committed log) marks
     → count (suc transactions) (λ t. fails (getD marks t 0 is 0)) ≤ most-searched
 few-enough log marks well h m =
     let e : count (suc transactions) (λ t. fails (getD marks t 0 is 0)) ≡ count (suc transactions) (committed log) = count-same (suc transactions) _ _ (m .mark) in
@@ -48,19 +49,28 @@ nothing-placed log marks m =
     }
 
 -- what is found is the answer
-pub order-found : (log : List ℕ) (n : ℕ) (array buffer : List ℕ) → n ≤ length array → Searched log [] n true array → buffer ≡ entries witness-entries (take n array) → Found log (Order n) buffer
-unfolding said witness
-order-found log n array buffer h (found u f e) b =
+pub order-found : (log : List ℕ) (n : ℕ) (array list : List ℕ) → n ≤ length array → Searched log [] n true array → list ≡ entries transactions (take n array)
+    → Holds (Exact transactions log) (record { answer = Order n; list = list })
+unfolding said members
+order-found log n array list h (found u f e) l =
     record {
-      answer = paper.shown (order (take n array));
+      outcome = order (take n array);
       right = exact (subst (First dictionary (explains-loosely transactions log)) (sym e) f);
       says = ap Order (sym (length-take-le n array h));
-      leaves = b;
+      listed = l;
     }
 
-pub none-found : (log : List ℕ) (n : ℕ) (array buffer : List ℕ) → is-clean log ≡ true → Searched log [] n false array → buffer ≡ zeros witness-entries → Found log Nothing buffer
-unfolding said witness entries
-none-found log n array buffer c (missed g) b = record { answer = paper.none; right = exact-none (clean-cleanness log c) g; says = refl; leaves = b }
+pub none-found : (log : List ℕ) (n : ℕ) (array : List ℕ) → is-clean log ≡ true → Searched log [] n false array → Exact transactions log none
+none-found log n array c (missed g) = exact-none (clean-cleanness log c) g
+
+-- 13 applies where more are committed than the search takes
+pub search-over : (log : List ℕ) → most-searched < committed-count log → search-refusal log ≡ Refused 13 (committed-count log)
+unfolding search-refusal
+search-over log h = when-yes 13 (committed-count log) (→below h)
+
+pub search-within : (log : List ℕ) → committed-count log ≤ most-searched → search-refusal log ≡ Passed
+unfolding search-refusal
+search-within log h = when-no 13 (committed-count log) (→not-below h)
 
 -- a list written into an empty buffer, one entry more
 pub put-entry : (n : ℕ) (w : List ℕ) (v : ℕ) → length w < n → set (entries n w) (length w) v ≡ entries n (w ++ v ∷ [])

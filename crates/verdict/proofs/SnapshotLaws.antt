@@ -7,36 +7,42 @@ use Prim.Native.Nat.{ℕ, suc, _-_, _≤_, _<_}
 use native.Mathlib.Omega.{arith}
 use native.Mathlib.Numerals.{add-one}
 use lib.ListN.{getD, replicate}
-use Rattle.words.specs.Tests.{_is_, _below_, _and_, _or_, fails, some, lowest}
-use Rattle.words.proofs.Truth.{decide, not-both, to-false, and→, →and, and-true, and-no-left, and-no-right, or→, →or-left, →or-right, →is, is→, →isnt, →below, →not-below, if-true, if-false, some→, →some, none→, some-skip, lowest-is, lowest-none, lowest-at, lowest-passes, lowest-bound, lowest-left, lowest-right, below-lowest, highest-yes, highest-no}
+use Rattle.words.specs.Tests.{_is_, _and_, _or_, fails, some, lowest, highest}
+use Rattle.words.proofs.Truth.{decide, not-both, to-false, and→, →and, and-true, and-no-left, and-no-right, or→, →or-left, →or-right, →is, is→, →isnt, →below, →not-below, if-true, if-false, some→, →some, none→, none-next, lowest-is, lowest-none, lowest-at, lowest-passes, lowest-bound, lowest-left, lowest-right, below-lowest, highest-yes, highest-no, highest-below, highest-none}
 use Rattle.verdict.specs.Limits.{transactions, objects}
-use Rattle.verdict.specs.Log.{steps, kind, tx, obj, src, begins, writes, committed, commits, writer, write-one-object, begin-step, commit-step, commits-writer}
+use Rattle.verdict.specs.Log.{steps, kind, tx, obj, begins, writes, committed, commits, writer, write-one-object, begin-step, commit-step, commits-writer}
 use Rattle.verdict.specs.Clean.{judged-other}
-use Rattle.verdict.specs.Snapshot.{snapshot, read-at, write-at-with, snapshot-step, last-committed, wrong-read, overlap, clash, wrong-commit, wrong-step, snapshot-fault, snapshot-verdict}
-use Rattle.verdict.specs.Walk.{does, FirstSteps, Marked, partner, FirstClash}
+use Rattle.verdict.specs.declared.step.Step.{Step}
+use Rattle.verdict.specs.declared.answers.Snapshot.the-variants.{Yes, Read, Write}
+use Rattle.verdict.specs.Snapshot.{snapshot-step, last-commit, last-committed, wrong-read, overlap, clash, wrong-commit, wrong-step, snapshot-fault, snapshot-verdict}
+use Rattle.verdict.specs.Inner.StepAt.{StepAt}
+use Rattle.verdict.specs.Inner.Marks.{does, FirstSteps, Marked}
+use Rattle.verdict.specs.Inner.Clashes.{partner, FirstClash}
 use Rattle.verdict.proofs.WellFormed.{Well}
-use Rattle.verdict.proofs.Judged.{other-kind}
+use Rattle.verdict.proofs.JudgedReads.{other-kind}
 use Rattle.verdict.proofs.Marks.{unmarked}
 
 -- THE LAST COMMITTED WRITER
 module _ (log : List ℕ) (x : ℕ) where
   pub last-none : last-committed log 0 x ≡ 0
-  unfolding last-committed some
-  last-none = if-false _ _ refl
+  unfolding last-committed last-commit highest
+  last-none = if-false _ _ (→not-below (omega arith))
 
-  pub last-here : (b : ℕ) → commits-writer log x b ≡ true → last-committed log (suc b) x ≡ tx log b
-  unfolding last-committed some
-  last-here b h = if-true _ _ (→or-right _ h) ∙ ap (tx log) (highest-yes b (commits-writer log x) h)
+  last-here : (b : ℕ) → commits-writer log x b ≡ true → last-committed log (suc b) x ≡ tx log b
+  unfolding last-committed last-commit
+  last-here b h = rw (highest-yes b (commits-writer log x) h) (if-true _ _ (→below (omega arith)))
 
-  pub last-before : (b : ℕ) → commits-writer log x b ≡ false → last-committed log (suc b) x ≡ last-committed log b x
+  last-before : (b : ℕ) → commits-writer log x b ≡ false → last-committed log (suc b) x ≡ last-committed log b x
+  unfolding last-committed last-commit
   last-before b h = go (decide (some b (commits-writer log x)))
     where
-      same : some (suc b) (commits-writer log x) ≡ some b (commits-writer log x)
-      same = rw (← add-one b) (some-skip b (commits-writer log x) h)
-
       go : (some b (commits-writer log x) ≡ true) ⊎ (some b (commits-writer log x) ≡ false) → last-committed log (suc b) x ≡ last-committed log b x
-      go (inl k) = unfold last-committed in (if-true _ _ (same ∙ k) ∙ ap (tx log) (highest-no b (commits-writer log x) h k) ∙ sym (if-true _ _ k))
-      go (inr k) = unfold last-committed in (if-false _ _ (same ∙ k) ∙ sym (if-false _ _ k))
+      go (inl k) =
+          let l : highest b (commits-writer log x) < b = highest-below b (commits-writer log x) k in
+          rw (highest-no b (commits-writer log x) h k) (if-true _ _ (→below (omega arith)) ∙ sym (if-true _ _ (→below l)))
+      go (inr k) =
+          if-false _ _ (→not-below (omega (arith, highest-none (suc b) (commits-writer log x) (rw (add-one b) at (none-next b (commits-writer log x) k h)))))
+          ∙ sym (if-false _ _ (→not-below (omega (arith, highest-none b (commits-writer log x) k))))
 
   -- the same, one step back from j
   module _ (j : ℕ) (h : 0 < j) where
@@ -52,9 +58,10 @@ module _ (log : List ℕ) (i : ℕ) where
   unfolding wrong-read
   not-wrong j = and-no-left _ j
 
-  pub names-another : judged-other log i ≡ true → wrong-read log i ≡ fails (src log i is last-committed log (snapshot-step log (tx log i)) (obj log i))
-  unfolding wrong-read
-  names-another j = and-true j
+  -- a judged read from another: s names its source, and r is who committed last before b, where the reader begins
+  pub names-another : {s : Step} {b r : ℕ} → StepAt log i s → judged-other log i ≡ true → b ≡ lowest (steps log) (does log 1 (s .tx)) → r ≡ last-committed log b (s .obj) → fails (s .src is r) ≡ wrong-read log i
+  unfolding wrong-read snapshot-step begin-step begins does
+  names-another step j e f = rw (f, e, step .src-is, step .tx-is, step .obj-is) (sym (and-true j))
 
 -- A CLASH
 module _ (log : List ℕ) (j p : ℕ) where
@@ -66,31 +73,34 @@ module _ (log : List ℕ) (j p : ℕ) where
   unfolding clash
   commit-of h = is→ (and→ (and→ (and→ (and→ h .0) .0) .0) .0)
 
-  -- a partner who writes the object x that the committing transaction writes
-  pub shared-object : (x : ℕ) → kind log j ≡ 4 → writer log x (tx log j) ≡ true → partner log j (tx log j) p ≡ true → writer log x p ≡ true → clash log j p ≡ true
-  unfolding clash partner write-one-object writer writes
-  shared-object x k mine q theirs =
-      let r = and→ q in
-      let s = and→ (r .0) in
-      let o = some→ mine in
-      let e : obj log (o .0) ≡ x = is→ (and→ (o .2) .1) in
-      →and (→and (→and (→and (→is k) (s .0)) (s .1)) (r .1)) (→some _ (o .0) (o .1) (→and (and→ (o .2) .0) (rw e theirs)))
+  -- an object that the committing transaction t writes, and a partner writes
+  module _ {t : ℕ} (committing : t ≡ tx log j) where
+    pub shared-object : (x : ℕ) → kind log j ≡ 4 → (writer log x t and (partner log j t p and writer log x p)) ≡ true → clash log j p ≡ true
+    unfolding clash partner write-one-object writer writes
+    shared-object x k both =
+        let b = and→ (rw committing at both) in
+        let q = and→ (b .1) in
+        let r = and→ (q .0) in
+        let s = and→ (r .0) in
+        let o = some→ (b .0) in
+        let e : obj log (o .0) ≡ x = is→ (and→ (o .2) .1) in
+        →and (→and (→and (→and (→is k) (s .0)) (s .1)) (r .1)) (→some _ (o .0) (o .1) (→and (and→ (o .2) .0) (rw e (q .1))))
 
-  pub no-shared-object : {most : ℕ} → Well most log → ((x : ℕ) → x < objects → (writer log x (tx log j) and (partner log j (tx log j) p and writer log x p)) ≡ false) → clash log j p ≡ false
-  unfolding clash partner write-one-object
-  no-shared-object well f = to-false _ (λ h.
-      let r = and→ h in
-      let s = and→ (r .0) in
-      let u = and→ (s .0) in
-      let v = and→ (u .0) in
-      let o = some→ (r .1) in
-      let i : ℕ = o .0 in
-      let w = and→ (o .2) in
-      let b : obj log i < objects = well .object i (o .1) (inr (is→ (and→ (w .0) .0))) in
-      not-both (→and (writes-it i (o .1) (w .0)) (→and (→and (→and (v .1) (u .1)) (s .1)) (w .1))) (f (obj log i) b))
-    where
-      writes-it : (i : ℕ) → i < steps log → (kind log i is 3 and tx log i is tx log j) ≡ true → writer log (obj log i) (tx log j) ≡ true
-      writes-it i h e = unfold writer writes in (→some _ i h (→and e (→is refl)))
+    pub no-shared-object : {most : ℕ} → Well most log → ((x : ℕ) → x < objects → (writer log x t and (partner log j t p and writer log x p)) ≡ false) → clash log j p ≡ false
+    unfolding clash partner write-one-object
+    no-shared-object well f = to-false _ (λ h.
+        let r = and→ h in
+        let s = and→ (r .0) in
+        let u = and→ (s .0) in
+        let v = and→ (u .0) in
+        let o = some→ (r .1) in
+        let i : ℕ = o .0 in
+        let w = and→ (o .2) in
+        let b : obj log i < objects = well .object i (o .1) (inr (is→ (and→ (w .0) .0))) in
+        not-both (→and (writes-it i (o .1) (w .0)) (→and (→and (→and (v .1) (u .1)) (s .1)) (w .1))) (rw committing at (f (obj log i) b)))
+      where
+        writes-it : (i : ℕ) → i < steps log → (kind log i is 3 and tx log i is tx log j) ≡ true → writer log (obj log i) (tx log j) ≡ true
+        writes-it i h e = unfold writer writes in (→some _ i h (→and e (→is refl)))
 
 -- the search over commits, partners and objects
 module _ (log : List ℕ) (j : ℕ) (none-earlier : some j (wrong-commit transactions log) ≡ false) where
@@ -153,7 +163,7 @@ module _ (log : List ℕ) where
   wrong-commit-kind j h = let r = some→ h in commit-of log j (r .0) (r .2)
 
   module _ (k j p : ℕ) (read : k ≡ lowest (steps log) (wrong-read log)) (found : FirstClash log j p) where
-    pub read-first : k < j → snapshot-verdict transactions log ≡ read-at k
+    pub read-first : k < j → snapshot-verdict transactions log ≡ Read k
     unfolding snapshot-verdict wrong-step snapshot-fault
     read-first h =
         let b : lowest (steps log) (wrong-commit transactions log) ≤ steps log = lowest-bound (wrong-commit transactions log) in
@@ -163,7 +173,7 @@ module _ (log : List ℕ) where
         let w : wrong-read log k ≡ true = rw read (lowest-is {n = steps log} (wrong-read log) (lowest-passes (wrong-read log) (omega arith)) .1) in
         if-true _ _ (→some _ k (omega arith) (→or-left _ w)) ∙ ap (snapshot-fault transactions log) e ∙ if-true _ _ w
 
-    pub write-first : j ≤ k → j < steps log → snapshot-verdict transactions log ≡ write-at-with j p
+    pub write-first : j ≤ k → j < steps log → snapshot-verdict transactions log ≡ Write j p
     unfolding snapshot-verdict wrong-step snapshot-fault
     write-first h n =
         let f : j ≡ lowest (steps log) (wrong-commit transactions log) = found .first in
@@ -172,9 +182,9 @@ module _ (log : List ℕ) where
         let w : wrong-commit transactions log j ≡ true = rw f (lowest-is {n = steps log} (wrong-commit transactions log) (lowest-passes (wrong-commit transactions log) (omega arith)) .1) in
         let c : kind log j ≡ 4 = wrong-commit-kind j w in
         let g : wrong-read log j ≡ false = not-wrong log j (other-kind log j (λ (q : kind log j ≡ 2). omega arith)) in
-        if-true _ _ (→some _ j n (→or-right _ w)) ∙ ap (snapshot-fault transactions log) e ∙ if-false _ _ g ∙ ap (write-at-with j) (sym (found .other n))
+        if-true _ _ (→some _ j n (→or-right _ w)) ∙ ap (snapshot-fault transactions log) e ∙ if-false _ _ g ∙ ap (Write j) (sym (found .other n))
 
-    pub all-right : j ≤ k → steps log ≤ j → snapshot-verdict transactions log ≡ snapshot
+    pub all-right : j ≤ k → steps log ≤ j → snapshot-verdict transactions log ≡ Yes
     unfolding snapshot-verdict wrong-step
     all-right h n =
         let f : j ≡ lowest (steps log) (wrong-commit transactions log) = found .first in

@@ -9,25 +9,29 @@ use Rattle.words.specs.Tests.{_is_, _below_, _and_, _or_, some}
 use Rattle.graph.specs.Matrix.{takes-part, joined}
 use Rattle.words.proofs.Truth.{decide, same-test, and→, →and, and-true, and-no-left, and-no-right, or→, →or-left, →or-right, or-no, or-false, →fails, fails→, is→, isnt→, →is, →isnt, →below, below→, →not-below, →upto, →not-upto, if-true, if-false, some→, →some, →none, none→, none-below, lowest-at, lowest-none}
 use Rattle.verdict.specs.Limits.{transactions}
-use Rattle.verdict.specs.Log.{steps, kind, tx, obj, src, reads, writes, committed, writer, commits-writer}
-use Rattle.verdict.specs.Clean.{clean, cleanness, judged, is-clean}
-use Rattle.verdict.specs.Answer.{shown}
-use Rattle.verdict.specs.Version.{after, next-commit, next-version, writer-to-next, source-to-reader, reader-to-next, version-edge, Version, version}
-use Rattle.verdict.specs.declared.Answer.{Answer}
-use Rattle.verdict.specs.Walk.{one-edge, with-edge, next-writer, write-edges, read-edges, version-step, versions-until, Matrix, Committed, Showing, Answers}
+use Rattle.verdict.specs.Log.{steps, kind, tx, obj, src, reads, committed, writer, commits-writer}
+use Rattle.verdict.specs.declared.answers.Cleanness.the-variants.{Yes}
+use Rattle.verdict.specs.Clean.{cleanness, judged, is-clean}
+use Rattle.verdict.specs.Judgement.{Holds}
+use Rattle.verdict.specs.Version.{versions-from, next-commit, next-version, version-edge, Version, version}
+use Rattle.verdict.specs.declared.answers.Witnessed.{Witnessed}
+use Rattle.verdict.specs.Inner.VersionEdges.{from-writer, from-source, from-reader, plain-version, next-writer, write-edges, read-edges, version-step, versions-until}
+use Rattle.verdict.specs.Inner.Edges.{one-edge, with-edge, Drawn, Showing}
+use Rattle.verdict.specs.Inner.Marks.{Committed}
 use Rattle.verdict.proofs.WellFormed.{Well}
-use Rattle.verdict.proofs.Versions.{candidate, next→}
-use Rattle.verdict.proofs.Judge.{cleanness-clean, version-ends}
+use Rattle.verdict.proofs.Cleanly.{cleanness-clean}
+use Rattle.verdict.proofs.Versions.{candidate}
+use Rattle.verdict.proofs.Dependencies.{plain-version-edge, version-leaves, version-enters}
 use Rattle.verdict.proofs.Matrices.{Kept, one-edge→, →one-edge, same-edges, edge-more, edges-more, Between, shown-of}
 
 -- THE WRITER OF THE NEXT VERSION
 module _ (log : List ℕ) (x v : ℕ) where
   -- the steps before those that may commit it
-  pub none-before : some (after log v) (candidate log x v) ≡ false
+  pub none-before : some (versions-from log v) (candidate log x v) ≡ false
   unfolding candidate
-  none-before = →none _ (λ (j : ℕ) (h : j < after log v). and-no-left _ (→not-upto h))
+  none-before = →none _ (λ (j : ℕ) (h : j < versions-from log v). and-no-left _ (→not-upto h))
 
-  pub commits-next : (j : ℕ) → after log v ≤ j → kind log j ≡ 4 → writer log x (tx log j) ≡ true → candidate log x v j ≡ true
+  pub commits-next : (j : ℕ) → versions-from log v ≤ j → kind log j ≡ 4 → writer log x (tx log j) ≡ true → candidate log x v j ≡ true
   unfolding candidate commits-writer
   commits-next j h k w = →and (→upto h) (→and (→is k) w)
 
@@ -74,18 +78,6 @@ next-range log well x v = go (decide (next-commit log x v below steps log))
     go (inl k) = rw (if-true (tx log (next-commit log x v)) 0 k) (well .range (next-commit log x v) (below→ k) .1)
     go (inr k) = rw (if-false (tx log (next-commit log x v)) 0 k) (omega arith)
 
--- a source is a transaction too, or 0
-pub source-range : (log : List ℕ) → Well transactions log → (i : ℕ) → i < steps log → kind log i ≡ 2 → src log i ≤ transactions
-unfolding writer writes
-source-range log well i h k = go (decide (src log i is 0))
-  where
-    go : ((src log i is 0) ≡ true) ⊎ ((src log i is 0) ≡ false) → src log i ≤ transactions
-    go (inl z) = let e : src log i ≡ 0 = is→ z in omega arith
-    go (inr n) =
-        let r = some→ (well .source i h k (isnt→ n)) in
-        let e : tx log (r .0) ≡ src log i = is→ (and→ (and→ (r .2) .0) .1) in
-        rw e at (well .range (r .0) (r .1) .1)
-
 -- THE EDGES OF A STEP
 module _ (log : List ℕ) (i : ℕ) where
   pub open-step : committed log (tx log i) ≡ false → (a b : ℕ) → version-step log i a b ≡ false
@@ -106,65 +98,65 @@ module _ (log : List ℕ) (i : ℕ) where
     read-step r a b = and-true c ∙ or-false (and-no-left _ (→isnt (λ (w : kind log i ≡ 3). omega arith))) ∙ and-true (→is r)
 
   -- the matrix of the steps below i, and then of step i too
-  module _ {m : List ℕ} (drawn : Matrix (versions-until log i) m) where
-    pub none-drawn : ((a b : ℕ) → version-step log i a b ≡ false) → Matrix (versions-until log (suc i)) m
+  module _ {m : List ℕ} (drawn : Drawn (versions-until log i) m) where
+    pub none-drawn : ((a b : ℕ) → version-step log i a b ≡ false) → Drawn (versions-until log (suc i)) m
     unfolding versions-until some
     none-drawn f = same-edges drawn (λ a b. sym (or-no _ (f a b)))
 
     module _ (well : Well transactions log) (h : i < steps log) (c : committed log (tx log i) ≡ true) where
-      pub write-drawn : kind log i ≡ 3 → Matrix (versions-until log (suc i)) (with-edge m (tx log i) (next-writer log (obj log i) (tx log i)))
+      pub write-drawn : kind log i ≡ 3 → Drawn (versions-until log (suc i)) (with-edge m (tx log i) (next-writer log (obj log i) (tx log i)))
       unfolding versions-until some write-edges
       write-drawn w =
           same-edges (edge-more drawn (tx log i) (next-writer log (obj log i) (tx log i)) (well .range i h .1) (next-range log well _ _))
           (λ a b. ap (λ (z : Bool). versions-until log i a b or z) (sym (write-step c w a b)))
 
       pub read-drawn : kind log i ≡ 2
-          → Matrix (versions-until log (suc i)) (with-edge (with-edge m (src log i) (tx log i)) (tx log i) (next-writer log (obj log i) (src log i)))
+          → Drawn (versions-until log (suc i)) (with-edge (with-edge m (src log i) (tx log i)) (tx log i) (next-writer log (obj log i) (src log i)))
       unfolding versions-until some read-edges
       read-drawn r =
-          same-edges (edges-more (src log i) (tx log i) (source-range log well i h r) (well .range i h .1) (tx log i) (next-writer log (obj log i) (src log i)) (well .range i h .1) (next-range log well _ _) drawn)
+          same-edges (edges-more (src log i) (tx log i) (well .sources i h r) (well .range i h .1) (tx log i) (next-writer log (obj log i) (src log i)) (well .range i h .1) (next-range log well _ _) drawn)
           (λ a b. ap (λ (z : Bool). versions-until log i a b or z) (sym (read-step c r a b)))
 
 -- THE EDGES OF ALL STEPS
 module _ (log : List ℕ) (a b : ℕ) where
-  an-edge : Kept a b → (writer-to-next log a b or source-to-reader log a b or reader-to-next log a b) ≡ true → version-edge log a b ≡ true
-  unfolding version-edge
+  an-edge : Kept a b → (from-writer log a b or from-source log a b or from-reader log a b) ≡ true → plain-version log a b ≡ true
+  unfolding plain-version
   an-edge k h = →and (→and (→and (→fails (→isnt (k .differ))) (→fails (→isnt (k .from)))) (→fails (→isnt (k .to)))) h
 
   -- each edge of a step is one of the graph
-  step-edge : (i : ℕ) → i < steps log → version-step log i a b ≡ true → version-edge log a b ≡ true
-  unfolding version-step write-edges read-edges writer-to-next source-to-reader reader-to-next judged reads
+  step-edge : (i : ℕ) → i < steps log → version-step log i a b ≡ true → plain-version log a b ≡ true
+  unfolding version-step write-edges read-edges from-writer from-source from-reader judged reads
   step-edge i l h = ⊎-elim write (λ k. ⊎-elim (source (and→ k .0)) (reader (and→ k .0)) (or→ (and→ k .1))) (or→ (and→ h .1))
     where
       c : committed log (tx log i) ≡ true
       c = and→ h .0
 
-      write : (kind log i is 3 and write-edges log i a b) ≡ true → version-edge log a b ≡ true
+      write : (kind log i is 3 and write-edges log i a b) ≡ true → plain-version log a b ≡ true
       write k =
           let o = one-edge→ (tx log i) (next-writer log (obj log i) (tx log i)) a b (and→ k .1) in
           let e : tx log i ≡ a = o .1 in
           let n : next-writer log (obj log i) a ≡ b = rw e at (o .2) in
           an-edge (o .0) (→or-left _ (→or-left _ (→and (rw e at c) (→some _ i l (→and (→and (and→ k .0) (→is e)) (→next-version log (obj log i) a b n (o .0 .to)))))))
 
-      source : (kind log i is 2) ≡ true → one-edge (src log i) (tx log i) a b ≡ true → version-edge log a b ≡ true
+      source : (kind log i is 2) ≡ true → one-edge (src log i) (tx log i) a b ≡ true → plain-version log a b ≡ true
       source r k =
           let o = one-edge→ (src log i) (tx log i) a b k in
           an-edge (o .0) (→or-left _ (→or-right _ (→some _ i l (→and (→and (→and r c) (→is (o .1))) (→is (o .2))))))
 
-      reader : (kind log i is 2) ≡ true → one-edge (tx log i) (next-writer log (obj log i) (src log i)) a b ≡ true → version-edge log a b ≡ true
+      reader : (kind log i is 2) ≡ true → one-edge (tx log i) (next-writer log (obj log i) (src log i)) a b ≡ true → plain-version log a b ≡ true
       reader r k =
           let o = one-edge→ (tx log i) (next-writer log (obj log i) (src log i)) a b k in
           an-edge (o .0) (→or-right _ (→some _ i l (→and (→and (→and r c) (→is (o .1))) (→next-version log (obj log i) (src log i) b (o .2) (o .0 .to)))))
 
   -- and each edge of the graph is one of a step
-  edge-step : version-edge log a b ≡ true → (i : ℕ) × (i < steps log) × (version-step log i a b ≡ true)
-  unfolding version-step write-edges read-edges version-edge writer-to-next source-to-reader reader-to-next judged reads
+  edge-step : plain-version log a b ≡ true → (i : ℕ) × (i < steps log) × (version-step log i a b ≡ true)
+  unfolding version-step write-edges read-edges plain-version from-writer from-source from-reader judged reads
   edge-step h = ⊎-elim (λ l. ⊎-elim write source (or→ l)) reader (or→ (and→ h .1))
     where
       k : Kept a b
       k = let r = and→ (and→ h .0) in let q = and→ (r .0) in record { differ = isnt→ (fails→ (q .0)); from = isnt→ (fails→ (q .1)); to = isnt→ (fails→ (r .1)) }
 
-      write : writer-to-next log a b ≡ true → (i : ℕ) × (i < steps log) × (version-step log i a b ≡ true)
+      write : from-writer log a b ≡ true → (i : ℕ) × (i < steps log) × (version-step log i a b ≡ true)
       write w =
           let r = some→ (and→ w .1) in
           let i : ℕ = r .0 in
@@ -172,7 +164,7 @@ module _ (log : List ℕ) (a b : ℕ) where
           let n : next-writer log (obj log i) a ≡ b = next-version→ log (obj log i) a b (and→ (r .2) .1) in
           (i, r .1, →and (rw e (and→ w .0)) (→or-left _ (→and (and→ (and→ (r .2) .0) .0) (rw (e, n) (→one-edge k)))))
 
-      source : source-to-reader log a b ≡ true → (i : ℕ) × (i < steps log) × (version-step log i a b ≡ true)
+      source : from-source log a b ≡ true → (i : ℕ) × (i < steps log) × (version-step log i a b ≡ true)
       source w =
           let r = some→ w in
           let i : ℕ = r .0 in
@@ -181,7 +173,7 @@ module _ (log : List ℕ) (a b : ℕ) where
           let f : tx log i ≡ b = is→ (and→ (r .2) .1) in
           (i, r .1, →and (j .1) (→or-right _ (→and (j .0) (→or-left _ (rw (e, f) (→one-edge k))))))
 
-      reader : reader-to-next log a b ≡ true → (i : ℕ) × (i < steps log) × (version-step log i a b ≡ true)
+      reader : from-reader log a b ≡ true → (i : ℕ) × (i < steps log) × (version-step log i a b ≡ true)
       reader w =
           let r = some→ w in
           let i : ℕ = r .0 in
@@ -190,28 +182,24 @@ module _ (log : List ℕ) (a b : ℕ) where
           let n : next-writer log (obj log i) (src log i) ≡ b = next-version→ log (obj log i) (src log i) b (and→ (r .2) .1) in
           (i, r .1, →and (j .1) (→or-right _ (→and (j .0) (→or-right _ (rw (e, n) (→one-edge k))))))
 
-  pub all-versions : versions-until log (steps log) a b ≡ version-edge log a b
+module _ {most : ℕ} (log : List ℕ) (well : Well most log) where
+  pub all-versions : (a b : ℕ) → versions-until log (steps log) a b ≡ version-edge log a b
   unfolding versions-until
-  all-versions = same-test (λ h. let r = some→ h in step-edge (r .0) (r .1) (r .2)) (λ h. let r = edge-step h in →some _ (r .0) (r .1) (r .2))
-
--- THE EDGES JOIN COMMITTED TRANSACTIONS
-module _ {most : ℕ} (log : List ℕ) (well : Well most log) (cl : is-clean log ≡ true) where
-  pub version-between : Between log (version-edge log)
-  unfolding version-edge writer-to-next source-to-reader reader-to-next judged
-  version-between =
-      record {
-        differ = λ a b h. isnt→ (fails→ (and→ (and→ (and→ h .0) .0) .0));
-        from = λ a b h. version-ends log well cl a b h .1;
-        to = λ a b h. ⊎-elim (λ k. ⊎-elim (λ w. let r = some→ (and→ w .1) in next→ log well _ _ b (and→ (r .2) .1) .wrote .commit) (source a b) (or→ k))
-            (λ w. let r = some→ w in next→ log well _ _ b (and→ (r .2) .1) .wrote .commit) (or→ (and→ h .1));
-      }
-    where
-      source : (a b : ℕ) → source-to-reader log a b ≡ true → committed log b ≡ true
-      source a b w = let r = some→ w in rw (is→ {m = tx log (r .0)} {n = b} (and→ (r .2) .1)) at (and→ (and→ (and→ (r .2) .0) .0) .1)
+  all-versions a b =
+      same-test (λ h. let r = some→ h in step-edge log a b (r .0) (r .1) (r .2)) (λ h. let r = edge-step log a b h in →some _ (r .0) (r .1) (r .2)) ∙ sym (plain-version-edge log well a b)
 
 -- what is shown of the matrix is the verdict's answer
-pub version-answer : {log m part work witness : List ℕ} {r : Answer} → Well transactions log → cleanness log ≡ clean → Committed log part → Matrix (version-edge log) m
-    → Showing (takes-part transactions part) (joined transactions m part) r work witness → Answers (Version transactions log) r work witness
-version-answer {log} well e marks drawn s =
-    let t = shown-of marks drawn (version-between log well (cleanness-clean log e)) s in
-    record { given = shown (t .shown); right = version e (t .right); says = t .says; leaves = t .leaves }
+pub version-between : {most : ℕ} (log : List ℕ) → Well most log → is-clean log ≡ true → Between log (version-edge log)
+unfolding version-edge
+version-between log well clean =
+    record {
+      differ = λ a b h. isnt→ (fails→ (and→ (and→ (and→ h .0) .0) .0));
+      from = λ a b h. version-leaves log well a b h clean;
+      to = λ a b h. version-enters log well a b h;
+    }
+
+pub version-holds : {log m part : List ℕ} {r : Witnessed} → Well transactions log → cleanness log ≡ Yes → Committed log part → Drawn (version-edge log) m
+    → Showing (takes-part transactions part) (joined transactions m part) r → Holds (Version transactions log) r
+version-holds {log} well e marks drawn s =
+    let h = shown-of marks drawn (version-between log well (cleanness-clean log e)) s in
+    record { outcome = h .outcome; right = version e (h .right); says = h .says; listed = h .listed }

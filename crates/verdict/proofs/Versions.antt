@@ -6,7 +6,7 @@ use Prim.Native.Nat.{ℕ, suc, _≤_, _<_}
 use native.Mathlib.Omega.{arith}
 use Rattle.words.specs.Tests.{_upto_, _and_, some, lowest}
 use Rattle.verdict.specs.Log.{steps, tx, obj, writes, commits, committed, writer, commit-step, commits-writer, write-one-object}
-use Rattle.verdict.specs.Version.{after, next-commit, next-version}
+use Rattle.verdict.specs.Version.{versions-from, next-commit, next-version}
 use Rattle.words.proofs.Truth.{to-false, to-true, and→, →and, is→, →is, →isnt, upto→, →upto, below→, →below, if-true, if-false, some→, →some, lowest-is, lowest-none, lowest-at, lowest-le}
 use Rattle.verdict.proofs.WellFormed.{Well}
 
@@ -15,13 +15,13 @@ pub record Wrote (log : List ℕ) (x t : ℕ) : Type 0 where
   pub commit : committed log t ≡ true
   pub write : writer log x t ≡ true
 
-pub after-zero : (log : List ℕ) → after log 0 ≡ 0
-unfolding after
-after-zero log = if-true 0 (suc (commit-step log 0)) (→is refl)
+pub versions-from-zero : (log : List ℕ) → versions-from log 0 ≡ 0
+unfolding versions-from
+versions-from-zero log = if-true 0 (suc (commit-step log 0)) (→is refl)
 
-pub after-other : (log : List ℕ) (v : ℕ) → (v ≡ 0 → ⊥) → after log v ≡ suc (commit-step log v)
-unfolding after
-after-other log v n = if-false 0 (suc (commit-step log v)) (→isnt n)
+pub versions-from-other : (log : List ℕ) (v : ℕ) → (v ≡ 0 → ⊥) → versions-from log v ≡ suc (commit-step log v)
+unfolding versions-from
+versions-from-other log v n = if-false 0 (suc (commit-step log v)) (→isnt n)
 
 -- two writers of one object
 pub share : (log : List ℕ) (x a b : ℕ) → writer log x a ≡ true → writer log x b ≡ true → write-one-object log a b ≡ true
@@ -39,7 +39,7 @@ shared log a b h =
 
 -- step j commits a version of x after v's
 unfoldable pub candidate : List ℕ → ℕ → ℕ → ℕ → Bool
-candidate log x v j = after log v upto j and commits-writer log x j
+candidate log x v j = versions-from log v upto j and commits-writer log x j
 
 module _ {most : ℕ} (log : List ℕ) (well : Well most log) where
   pub commit-step-is : (t : ℕ) → committed log t ≡ true → (commit-step log t < steps log) × (commits log t (commit-step log t) ≡ true)
@@ -66,10 +66,10 @@ module _ {most : ℕ} (log : List ℕ) (well : Well most log) where
   -- the next version after v's: it is later, and no other version lies between
   pub record Following (x v u : ℕ) : Type 0 where
     pub wrote : Wrote log x u
-    pub later : after log v ≤ commit-step log u
-    pub least : (z : ℕ) → Wrote log x z → after log v ≤ commit-step log z → commit-step log u ≤ commit-step log z
+    pub later : versions-from log v ≤ commit-step log u
+    pub least : (z : ℕ) → Wrote log x z → versions-from log v ≤ commit-step log z → commit-step log u ≤ commit-step log z
 
-  is-candidate : (x v z : ℕ) → Wrote log x z → after log v ≤ commit-step log z → candidate log x v (commit-step log z) ≡ true
+  is-candidate : (x v z : ℕ) → Wrote log x z → versions-from log v ≤ commit-step log z → candidate log x v (commit-step log z) ≡ true
   unfolding candidate commits-writer commits
   is-candidate x v z z-wrote h =
       →and (→upto h)
@@ -95,7 +95,7 @@ module _ {most : ℕ} (log : List ℕ) (well : Well most log) where
       let s : some (steps log) (candidate log x v) ≡ true = to-true _ (λ k. let n : lowest (steps log) (candidate log x v) ≡ steps log = lowest-none (candidate log x v) k in omega (arith, below→ (r .0))) in
       subst (Following x v) (is→ (r .1)) (following-at x v s)
 
-  pub →next : (x v z : ℕ) → Wrote log x z → after log v ≤ commit-step log z → (u : ℕ) × (next-version log x v u ≡ true) × Following x v u
+  pub →next : (x v z : ℕ) → Wrote log x z → versions-from log v ≤ commit-step log z → (u : ℕ) × (next-version log x v u ≡ true) × Following x v u
   unfolding next-version next-commit candidate
   →next x v z z-wrote h =
       let s : some (steps log) (candidate log x v) ≡ true = →some _ (commit-step log z) (commit-step-is z (z-wrote .commit) .0) (is-candidate x v z z-wrote h) in

@@ -8,35 +8,37 @@ use native.Mathlib.Omega.{arith}
 use native.Mathlib.Nat.{not-suc-le-zero}
 use Rattle.words.specs.Tests.{_is_, _below_, _upto_, _and_, _or_, fails}
 use Rattle.verdict.specs.Limits.{transactions, objects, most-steps}
-use Rattle.verdict.specs.Log.{steps, kind, tx, obj, src, commits, writer}
-use Rattle.verdict.specs.Refusal.{Refusal, taken, refused, _at_when_, _else-try_, tried, object-allowed, source-allowed, begun, ended, wrote, range-refusal, life-refusal, source-refusal, step-refusal, log-refusal}
-use Rattle.verdict.specs.Walk.{InRange}
+use Rattle.verdict.specs.Log.{steps, kind, tx, obj, src, commits, writer, begun, ended, wrote}
+use Rattle.verdict.specs.declared.answers.Checked.{Checked}
+use Rattle.verdict.specs.declared.answers.Checked.the-variants.{Passed, Refused}
+use Rattle.verdict.specs.Refusal.{_at_when_, _else-try_, tried, object-allowed, source-allowed, range-refusal, life-refusal, source-refusal, step-refusal, log-refusal}
+use Rattle.verdict.specs.Inner.Checking.{InRange}
 use Rattle.words.proofs.Truth.{decide, not-both, to-true, and→, →and, →or-left, →or-right, →fails, is→, →is, →isnt, upto→, below→, not-below→, some→, →some, if-true}
 
-Is-taken : Refusal → Type 0
-Is-taken taken = Unit {0}
-Is-taken (refused n p) = ⊥
+Has-passed : Checked → Type 0
+Has-passed Passed = Unit {0}
+Has-passed (Refused n p) = ⊥
 
-pub refused≢taken : {n p : ℕ} → refused n p ≡ taken → ⊥
-unfolding Is-taken
-refused≢taken e = subst Is-taken (sym e) tt
+pub refused≢passed : {n p : ℕ} → Refused n p ≡ Passed → ⊥
+unfolding Has-passed
+refused≢passed e = subst Has-passed (sym e) tt
 
-pub else-try→ : {a b : Refusal} → (a else-try b) ≡ taken → (a ≡ taken) × (b ≡ taken)
+pub else-try→ : {a b : Checked} → (a else-try b) ≡ Passed → (a ≡ Passed) × (b ≡ Passed)
 unfolding _else-try_
-else-try→ {a = taken} {b} h = (refl, h)
-else-try→ {a = refused n p} {b} h = absurd (refused≢taken h)
+else-try→ {a = Passed} {b} h = (refl, h)
+else-try→ {a = Refused n p} {b} h = absurd (refused≢passed h)
 
-pub when→ : (n p : ℕ) (b : Bool) → (n at p when b) ≡ taken → b ≡ false
+pub when→ : (n p : ℕ) (b : Bool) → (n at p when b) ≡ Passed → b ≡ false
 unfolding _at_when_
-when→ n p true h = absurd (refused≢taken h)
+when→ n p true h = absurd (refused≢passed h)
 when→ n p false h = refl
 
-pub tried→ : {n : ℕ} (f : ℕ → Refusal) → tried n f ≡ taken → (i : ℕ) → i < n → f i ≡ taken
+pub tried→ : {n : ℕ} (f : ℕ → Checked) → tried n f ≡ Passed → (i : ℕ) → i < n → f i ≡ Passed
 unfolding tried
 tried→ {n = zero} f h i k = absurd (not-suc-le-zero k)
 tried→ {n = suc n} f h i k = go (decide (i below n)) (else-try→ h .1) (λ m. tried→ {n = n} f (else-try→ h .0) i m)
   where
-    go : ((i below n) ≡ true) ⊎ ((i below n) ≡ false) → f n ≡ taken → (i < n → f i ≡ taken) → f i ≡ taken
+    go : ((i below n) ≡ true) ⊎ ((i below n) ≡ false) → f n ≡ Passed → (i < n → f i ≡ Passed) → f i ≡ Passed
     go (inl m) q rec = rec (below→ m)
     go (inr m) q rec = let e : i ≡ n = omega (arith, not-below→ m) in rw e q
 
@@ -71,12 +73,12 @@ module _ (log : List ℕ) (i : ℕ) (within : InRange log i) where
   source-within k = upto→ (rw (if-true (src log i upto transactions) (src log i is 0) (→is k)) at (to-true _ (λ q. not-both (→fails q) test-6)))
 
 -- .. which is so where no number turns the step away
-pub step-within : (log : List ℕ) (i : ℕ) → step-refusal log i ≡ taken → InRange log i
+pub step-within : (log : List ℕ) (i : ℕ) → step-refusal log i ≡ Passed → InRange log i
 unfolding step-refusal InRange
 step-within log i h = else-try→ h .0
 
-module _ (log : List ℕ) (well : log-refusal log ≡ taken) where
-  step-taken : (i : ℕ) → i < steps log → step-refusal log i ≡ taken
+module _ (log : List ℕ) (well : log-refusal log ≡ Passed) where
+  step-taken : (i : ℕ) → i < steps log → step-refusal log i ≡ Passed
   unfolding log-refusal
   step-taken = tried→ _ (else-try→ (else-try→ (else-try→ well .1) .1) .0)
 
@@ -126,5 +128,5 @@ pub record Well (most : ℕ) (log : List ℕ) : Type 0 where
   -- a transaction commits once
   pub once : (t i j : ℕ) → i < j → j < steps log → commits log t i ≡ true → commits log t j ≡ true → ⊥
 
-pub well-formed : (log : List ℕ) → log-refusal log ≡ taken → Well transactions log
+pub well-formed : (log : List ℕ) → log-refusal log ≡ Passed → Well transactions log
 well-formed log well = record { range = λ i h. tx-within log i (ranges log well i h); object = λ i h. object-within log i (ranges log well i h); sources = λ i h. source-within log i (ranges log well i h); source = source-wrote log well; once = commits-once log well }

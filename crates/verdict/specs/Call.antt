@@ -2,66 +2,64 @@
 use mathlib.Core.Path.{_≡_}
 use mathlib.Core.List.{List, [], _∷_}
 use Prim.Native.Nat.{ℕ}
-use Rattle.words.specs.Lists.{zeros, entries}
-use Rattle.verdict.specs.Limits.{transactions, witness-entries, work-bytes}
-use Rattle.verdict.specs.Refusal.{Refusal, taken, refused, _else-try_, log-refusal, search-refusal, work-refusal, witness-refusal}
-use Rattle.verdict.specs.Clean.{Cleanness, cleanness}
-use Rattle.verdict.specs.Snapshot.{Snapshot, snapshot-verdict}
-use Rattle.verdict.specs.Answer as answer
+use Rattle.words.specs.Lists.{zeros}
+use Rattle.verdict.specs.Limits.{transactions, work-bytes}
+use Rattle.verdict.specs.Refusal.{_else-try_, log-refusal, search-refusal, work-refusal, witness-refusal, order-refusal}
+use Rattle.verdict.specs.Clean.{cleanness}
+use Rattle.verdict.specs.Snapshot.{snapshot-verdict}
+use Rattle.verdict.specs.Outcome.{Outcome, said}
+use Rattle.verdict.specs.Witness as lent
 use Rattle.verdict.specs.Conflict.{Conflict}
 use Rattle.verdict.specs.Version.{Version}
 use Rattle.verdict.specs.Exact.{Exact}
 use Rattle.verdict.specs.Next.{Next, up-to-zero, list-refusal}
-use Rattle.verdict.specs.Said.{said-clean, said-snapshot, said, witness}
-use Rattle.verdict.specs.declared.CleanAnswer.{CleanAnswer}
-use Rattle.verdict.specs.declared.CleanAnswer.the-variants as clean-answer
-use Rattle.verdict.specs.declared.SnapshotAnswer.{SnapshotAnswer}
-use Rattle.verdict.specs.declared.SnapshotAnswer.the-variants as snapshot-answer
-use Rattle.verdict.specs.declared.Answer.{Answer}
-use Rattle.verdict.specs.declared.Answer.the-variants as the-answer
+use Rattle.verdict.specs.Answers.{Checked, Passed, Refused, CleanAnswer, SnapshotAnswer, WitnessAnswer}
 
--- A call with the lent buffers `before`, which leaves them as `after` and answers r. `given` says which refusal applies, if any.
+-- A call with the lent buffers `lent`, which leaves them as `left` and answers r. `applies` says which refusal applies, if any.
 -- Turned away: the number and the place, and every lent entry is as before.
 -- Answered: what the verdict allows, as the code says it, and in the buffers just what belongs to that answer
-pub data Call {A R : Type 0} (given : Refusal → Type 0) (away : ℕ → ℕ → R) (verdict : A → Type 0) (says : A → R) (leaves : A → List (List ℕ))
-    (before : List (List ℕ)) (r : R) (after : List (List ℕ)) : Type 0 where
-  turned-away : (number place : ℕ) → given (refused number place) → r ≡ away number place → after ≡ before
-      → Call given away verdict says leaves before r after
-  answered : (a : A) → given taken → verdict a → r ≡ says a → after ≡ leaves a → Call given away verdict says leaves before r after
+pub data Call {A R : Type 0} (applies : Checked → Type 0) (away : ℕ → ℕ → R) (verdict : A → Type 0) (says : A → R) (leaves : A → List (List ℕ))
+    (lent : List (List ℕ)) (r : R) (left : List (List ℕ)) : Type 0 where
+  turned-away : (number place : ℕ) → applies (Refused number place) → r ≡ away number place → left ≡ lent
+      → Call applies away verdict says leaves lent r left
+  answered : (a : A) → applies Passed → verdict a → r ≡ says a → left ≡ leaves a → Call applies away verdict says leaves lent r left
 
--- the work area all 0; and a witness first in its buffer, the remaining entries 0
+-- the work area all 0; and the witness of an outcome
 unfoldable pub leaves-work : {A : Type 0} → A → List (List ℕ)
 leaves-work a = zeros work-bytes ∷ []
 
-unfoldable pub leaves-witness : answer.Answer → List (List ℕ)
-leaves-witness a = zeros work-bytes ∷ entries witness-entries (witness a) ∷ []
+unfoldable pub leaves-witness : Outcome → List (List ℕ)
+leaves-witness a = zeros work-bytes ∷ lent.witness a ∷ []
 
 -- the entry points, each by its own refusal and its own verdict
 abbrev pub CleanCall : (log work : List ℕ) → CleanAnswer → (work′ : List ℕ) → Type 0
 CleanCall log work r work′ =
-    Call (λ f. f ≡ work-refusal work else-try log-refusal log) clean-answer.Refused (λ (a : Cleanness). a ≡ cleanness log) said-clean leaves-work
+    Call (λ f. f ≡ work-refusal work else-try log-refusal log) CleanAnswer.Refused (λ a. a ≡ cleanness log) CleanAnswer.Judged leaves-work
     (work ∷ []) r (work′ ∷ [])
 
 abbrev pub SnapshotCall : (log work : List ℕ) → SnapshotAnswer → (work′ : List ℕ) → Type 0
 SnapshotCall log work r work′ =
-    Call (λ f. f ≡ work-refusal work else-try log-refusal log) snapshot-answer.Refused (λ (a : Snapshot). a ≡ snapshot-verdict transactions log) said-snapshot leaves-work
+    Call (λ f. f ≡ work-refusal work else-try log-refusal log) SnapshotAnswer.Refused (λ a. a ≡ snapshot-verdict transactions log) SnapshotAnswer.Judged leaves-work
     (work ∷ []) r (work′ ∷ [])
 
 -- a call with a witness
-abbrev pub WitnessCall : Refusal → (answer.Answer → Type 0) → (work witness : List ℕ) → Answer → (work′ witness′ : List ℕ) → Type 0
+unfoldable pub said-judged : Outcome → WitnessAnswer
+said-judged a = WitnessAnswer.Judged (said a)
+
+abbrev pub WitnessCall : Checked → (Outcome → Type 0) → (work witness : List ℕ) → WitnessAnswer → (work′ witness′ : List ℕ) → Type 0
 WitnessCall refusal verdict work witness r work′ witness′ =
-    Call (λ f. f ≡ work-refusal work else-try witness-refusal witness else-try refusal) the-answer.Refused verdict said leaves-witness
+    Call (λ f. f ≡ work-refusal work else-try witness-refusal witness else-try refusal) WitnessAnswer.Refused verdict said-judged leaves-witness
     (work ∷ witness ∷ []) r (work′ ∷ witness′ ∷ [])
 
-abbrev pub ConflictCall : (log work witness : List ℕ) → Answer → (work′ witness′ : List ℕ) → Type 0
+abbrev pub ConflictCall : (log work witness : List ℕ) → WitnessAnswer → (work′ witness′ : List ℕ) → Type 0
 ConflictCall log = WitnessCall (log-refusal log) (Conflict transactions log)
 
-abbrev pub VersionCall : (log work witness : List ℕ) → Answer → (work′ witness′ : List ℕ) → Type 0
+abbrev pub VersionCall : (log work witness : List ℕ) → WitnessAnswer → (work′ witness′ : List ℕ) → Type 0
 VersionCall log = WitnessCall (log-refusal log) (Version transactions log)
 
-abbrev pub ExactCall : (log work witness : List ℕ) → Answer → (work′ witness′ : List ℕ) → Type 0
+abbrev pub ExactCall : (log work witness : List ℕ) → WitnessAnswer → (work′ witness′ : List ℕ) → Type 0
 ExactCall log = WitnessCall (log-refusal log else-try search-refusal log) (Exact transactions log)
 
-abbrev pub NextCall : (log given work witness : List ℕ) → Answer → (work′ witness′ : List ℕ) → Type 0
-NextCall log given =
-    WitnessCall (witness-refusal given else-try log-refusal log else-try list-refusal transactions log given) (Next transactions log (up-to-zero given))
+abbrev pub NextCall : (log order work witness : List ℕ) → WitnessAnswer → (work′ witness′ : List ℕ) → Type 0
+NextCall log order =
+    WitnessCall (order-refusal order else-try log-refusal log else-try list-refusal transactions log order) (Next transactions log (up-to-zero order))

@@ -4,15 +4,12 @@ use mathlib.Core.List.{List}
 use Prim.Native.Nat.{ℕ}
 use Rattle.words.specs.Tests.{_is_, _below_, _and_, _or_, fails, if_then_else_, some, lowest}
 use Rattle.verdict.specs.Log.{steps, tx, obj, src, reads, writes, committed, aborted}
+use Rattle.verdict.specs.Answers.{Fault, Aborted, Unfinal, Cleanness}
 
--- what is wrong with a read, and at which step
-pub data Fault : Type 0 where
-  aborted-at : ℕ → Fault
-  unfinal-at : ℕ → Fault
-
-pub data Cleanness : Type 0 where
-  clean : Cleanness
-  unclean : Fault → Cleanness
+-- the step of a fault
+unfoldable pub fault-step : Fault → ℕ
+fault-step (Aborted k) = k
+fault-step (Unfinal k) = k
 
 module _ (log : List ℕ) where
   -- step i is a judged read; and one from another
@@ -38,8 +35,8 @@ module _ (log : List ℕ) where
 
   -- the fault of a faulty step: aborted if the source aborted, otherwise unfinal
   unfoldable pub fault-at : ℕ → Fault
-  fault-at k = if aborted log (src log k) then aborted-at k else unfinal-at k
+  fault-at k = if aborted log (src log k) then Aborted k else Unfinal k
 
   -- the verdict: yes, or the lowest faulty step
   unfoldable pub cleanness : Cleanness
-  cleanness = if is-clean then clean else unclean (fault-at (lowest (steps log) faulty-read))
+  cleanness = if is-clean then Cleanness.Yes else Cleanness.Unclean (fault-at (lowest (steps log) faulty-read))

@@ -3,12 +3,12 @@ use mathlib.Core.Path.{_≡_}
 use mathlib.Core.List.{List}
 use Prim.Native.Nat.{ℕ}
 use Rattle.words.specs.First.{dictionary, First, Never}
-use Rattle.graph.specs.Shows.{order}
-use Rattle.verdict.specs.Clean.{Fault, clean, unclean, cleanness}
+use Rattle.verdict.specs.Clean.{cleanness}
 use Rattle.verdict.specs.Replay.{explains-loosely}
-use Rattle.verdict.specs.Answer.{Answer, shown, none, unclean-by}
+use Rattle.verdict.specs.Outcome.{Outcome, order, none, unclean}
+use Rattle.verdict.specs.Answers.{Fault, Cleanness}
 
-pub data Exact (most : ℕ) (log : List ℕ) : Answer → Type 0 where
-  exact : {w : List ℕ} → First dictionary (explains-loosely most log) w → Exact most log (shown (order w))
-  exact-none : cleanness log ≡ clean → Never (explains-loosely most log) → Exact most log none
-  exact-unclean : {f : Fault} → cleanness log ≡ unclean f → Exact most log (unclean-by f)
+pub data Exact (most : ℕ) (log : List ℕ) : Outcome → Type 0 where
+  exact : {w : List ℕ} → First dictionary (explains-loosely most log) w → Exact most log (order w)
+  exact-none : cleanness log ≡ Cleanness.Yes → Never (explains-loosely most log) → Exact most log none
+  exact-unclean : {f : Fault} → cleanness log ≡ Cleanness.Unclean f → Exact most log (unclean f)

@@ -1,17 +1,19 @@
--- Document 01's rules for a log: each file holds one of them and bears its name.
+-- Document 01's rules for a log: each file holds one of them and bears its name. `Inner` holds what the private functions promise each other.
+pub mod Answers
 pub mod Limits
 pub mod Log
 pub mod Refusal
 pub mod Clean
 pub mod Snapshot
-pub mod Answer
+pub mod Dependency
+pub mod Outcome
 pub mod Conflict
 pub mod Version
 pub mod Replay
 pub mod Exact
 pub mod Next
-pub mod Said
+pub mod Witness
 pub mod Call
 pub mod Listing
-pub mod Walk
-pub mod Placing
+pub mod Judgement
+pub mod Inner

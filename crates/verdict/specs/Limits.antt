@@ -2,11 +2,8 @@
 use Prim.Native.Nat.{ℕ}
 use Rattle.words.specs.Tests.{_below_, _upto_, _and_, if_then_else_}
 use Rattle.verdict.specs.declared.limits.MadeTransaction.{MadeTransaction}
-use Rattle.verdict.specs.declared.limits.MadeTransaction.the-variants as made-transaction
 use Rattle.verdict.specs.declared.limits.MadeObject.{MadeObject}
-use Rattle.verdict.specs.declared.limits.MadeObject.the-variants as made-object
 use Rattle.verdict.specs.declared.limits.MadeLog.{MadeLog}
-use Rattle.verdict.specs.declared.limits.MadeLog.the-variants as made-log
 
 -- transactions are 1..128
 abbrev pub transactions : ℕ
@@ -20,9 +17,12 @@ objects = 64
 abbrev pub most-steps : ℕ
 most-steps = 1024
 
--- a witness buffer has an entry for each transaction, and the work area 16,384 bytes
+-- a witness buffer has an entry for each transaction, the order handed to "next" too, and the work area has 16,384 bytes
 abbrev pub witness-entries : ℕ
 witness-entries = transactions
+
+abbrev pub order-entries : ℕ
+order-entries = transactions
 
 abbrev pub work-bytes : ℕ
 work-bytes = 16384
@@ -33,10 +33,10 @@ most-searched = 8
 
 -- what the code's constructors make of a number
 unfoldable pub make-transaction : ℕ → MadeTransaction
-make-transaction n = if 1 upto n and n upto transactions then made-transaction.Within (record { number = n }) else made-transaction.Beyond
+make-transaction n = if 1 upto n and n upto transactions then MadeTransaction.Within (record { number = n }) else MadeTransaction.Beyond
 
 unfoldable pub make-object : ℕ → MadeObject
-make-object n = if n below objects then made-object.Within (record { number = n }) else made-object.Beyond
+make-object n = if n below objects then MadeObject.Within (record { number = n }) else MadeObject.Beyond
 
 unfoldable pub make-log : ℕ → MadeLog
-make-log n = if n upto most-steps then made-log.Within (record { steps = n }) else made-log.Beyond
+make-log n = if n upto most-steps then MadeLog.Within (record { steps = n }) else MadeLog.Beyond

@@ -3,7 +3,7 @@ use mathlib.Core.Bool.{Bool}
 use mathlib.Core.List.{List}
 use Prim.Native.Nat.{ℕ, _+_, _*_, _/_}
 use lib.ListN.{length, getD}
-use Rattle.words.specs.Tests.{_is_, _and_, some, count, lowest}
+use Rattle.words.specs.Tests.{_is_, _and_, _or_, some, count, lowest}
 
 module _ (log : List ℕ) where
   unfoldable pub steps : ℕ
@@ -37,6 +37,16 @@ module _ (log : List ℕ) where
 
   unfoldable pub aborts : ℕ → ℕ → Bool
   aborts t i = kind i is 5 and tx i is t
+
+  -- before step i: t has begun, t has ended, t wrote x
+  unfoldable pub begun : ℕ → ℕ → Bool
+  begun i t = some i (begins t)
+
+  unfoldable pub ended : ℕ → ℕ → Bool
+  ended i t = some i (λ j. commits t j or aborts t j)
+
+  unfoldable pub wrote : ℕ → ℕ → ℕ → Bool
+  wrote i t x = some i (writes t x)
 
   -- in the whole log: t commits, t aborts, t writes x
   unfoldable pub committed : ℕ → Bool

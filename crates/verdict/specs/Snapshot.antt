@@ -5,20 +5,20 @@ use Prim.Native.Nat.{ℕ, suc}
 use Rattle.words.specs.Tests.{_is_, _below_, _and_, _or_, fails, if_then_else_, some, lowest, highest}
 use Rattle.verdict.specs.Log.{steps, kind, tx, obj, src, committed, begin-step, commit-step, commits-writer, write-one-object}
 use Rattle.verdict.specs.Clean.{judged-other}
-
-pub data Snapshot : Type 0 where
-  snapshot : Snapshot
-  read-at : ℕ → Snapshot
-  write-at-with : ℕ → ℕ → Snapshot
+use Rattle.verdict.specs.Answers.{Snapshot, Read, Write}
 
 module _ (log : List ℕ) where
   -- where t's snapshot lies: the step at which it begins
   unfoldable pub snapshot-step : ℕ → ℕ
   snapshot-step t = begin-step log t
 
+  -- the last step before b that commits a writer of x; b if there is none
+  unfoldable pub last-commit : ℕ → ℕ → ℕ
+  last-commit b x = highest b (commits-writer log x)
+
   -- the last transaction to commit, before step b, among the committed writers of x; 0 if there is none
   unfoldable pub last-committed : ℕ → ℕ → ℕ
-  last-committed b x = if some b (commits-writer log x) then tx log (highest b (commits-writer log x)) else 0
+  last-committed b x = if last-commit b x below b then tx log (last-commit b x) else 0
 
   -- a judged read from another that names anyone else
   unfoldable pub wrong-read : ℕ → Bool
@@ -43,8 +43,8 @@ module _ (most : ℕ) (log : List ℕ) where
 
   -- the fault of a wrong step: a read, or a write with its lowest-numbered partner
   unfoldable pub snapshot-fault : ℕ → Snapshot
-  snapshot-fault k = if wrong-read log k then read-at k else write-at-with k (lowest (suc most) (clash log k))
+  snapshot-fault k = if wrong-read log k then Read k else Write k (lowest (suc most) (clash log k))
 
   -- the verdict: yes, or the lowest wrong step
   unfoldable pub snapshot-verdict : Snapshot
-  snapshot-verdict = if some (steps log) wrong-step then snapshot-fault (lowest (steps log) wrong-step) else snapshot
+  snapshot-verdict = if some (steps log) wrong-step then snapshot-fault (lowest (steps log) wrong-step) else Snapshot.Yes

@@ -1,13 +1,16 @@
 // The clean verdict: whether every judged read is from a committed source that writes the object in no later step.
-use crate::Checked;
-use crate::CleanAnswer;
-use crate::Fault;
+use crate::answers::Checked;
+use crate::answers::CleanAnswer;
+use crate::answers::Cleanness;
+use crate::answers::Fault;
 use crate::edges::committed_ones;
 use crate::edges::takes_part;
+use crate::leaving::clear;
 use crate::limits::Object;
 use crate::limits::Transaction;
 use crate::refusal::admit;
-use crate::walk::clear;
+use crate::step::Step;
+use crate::step::step_at;
 use crate::walk::index;
 use crate::walk::seen;
 ghost use mathlib.Core.Path.{_≡_};
@@ -16,24 +19,26 @@ ghost use lib.ListN.{length, getD};
 ghost use Rattle.words.specs.Tests.{lowest};
 ghost use Rattle.verdict.specs.Limits.{transactions, objects};
 ghost use Rattle.verdict.specs.Log.{steps};
-ghost use Rattle.verdict.specs.Refusal.{taken, log-refusal};
+ghost use Rattle.verdict.specs.Refusal.{log-refusal};
 ghost use Rattle.verdict.specs.Clean.{faulty-read, cleanness};
-ghost use Rattle.verdict.specs.Said.{said-clean};
 ghost use Rattle.verdict.specs.Call.{CleanCall};
-ghost use Rattle.verdict.specs.Walk.{Committed, LastWrites};
+ghost use Rattle.verdict.specs.Inner.Marks.{Committed};
+ghost use Rattle.verdict.specs.Inner.LastWrites.{LastWrites};
+ghost use Rattle.verdict.specs.declared.answers.Checked.the-variants.{Passed};
 
 // For each transaction and object, 1 and the last step that writes it, or 0 where there is none.
 fn last_writes(log: &[u16]) -> [u16; Transaction::PAIRS]
-    requires { ⌜ log-refusal (now log) ≡ taken ⌝ }
+    requires { ⌜ log-refusal (now log) ≡ Passed ⌝ }
     ensures { λ r. ⌜ LastWrites (now (log .entry)) (steps (now (log .entry))) r ⌝ }
 {
     let n = log.len() / 4;
     let mut table = [0u16; Transaction::PAIRS];
     let mut i = 0;
     while i < n {
-        if log[4 * i] == 3 {
-            let t = index(log[4 * i + 1]);
-            let x = index(log[4 * i + 2]);
+        let step = step_at(log, i);
+        if step.kind == Step::WRITE {
+            let t = index(step.tx);
+            let x = index(step.obj);
             table[t * Object::TABLE + x] = (i + 1) as u16;
         }
         i += 1;
@@ -58,15 +63,16 @@ fn is_faulty(
     part: &[u8; Transaction::COUNT],
     last: &[u16; Transaction::PAIRS],
 ) -> bool
-    requires { ⌜ (log-refusal (now log) ≡ taken) × (4 * i + 4 ≤ length (now log)) × Committed (now log) (now part)
+    requires { ⌜ (log-refusal (now log) ≡ Passed) × (4 * i + 4 ≤ length (now log)) × Committed (now log) (now part)
         × LastWrites (now log) (steps (now log)) (now last) ⌝ }
     ensures { λ r. ⌜ r ≡ faulty-read (now (log .entry)) i ⌝ }
 {
-    if log[4 * i] != 2 {
+    let step = step_at(log, i);
+    if step.kind != Step::READ {
         return false;
     }
-    let t = log[4 * i + 1];
-    let s = log[4 * i + 3];
+    let t = step.tx;
+    let s = step.src;
     if s == t {
         return false;
     }
@@ -79,7 +85,7 @@ fn is_faulty(
     if !takes_part(part, s) {
         return true;
     }
-    if i + 1 < last_write(last, s, log[4 * i + 2]) {
+    if i + 1 < last_write(last, s, step.obj) {
         return true;
     }
     false
@@ -87,7 +93,7 @@ fn is_faulty(
 
 // The lowest faulty step, or the number of steps where there is none.
 fn first_fault(log: &[u16]) -> usize
-    requires { ⌜ log-refusal (now log) ≡ taken ⌝ }
+    requires { ⌜ log-refusal (now log) ≡ Passed ⌝ }
     ensures { λ r. ⌜ r ≡ lowest (steps (now (log .entry))) (faulty-read (now (log .entry))) ⌝ }
 {
     let part = committed_ones(log);
@@ -104,19 +110,20 @@ fn first_fault(log: &[u16]) -> usize
 }
 
 // The clean verdict of a well-formed log.
-pub(crate) fn judge_clean(log: &[u16]) -> CleanAnswer
-    requires { ⌜ log-refusal (now log) ≡ taken ⌝ }
-    ensures { λ r. ⌜ r ≡ said-clean (cleanness (now (log .entry))) ⌝ }
+pub(crate) fn judge_clean(log: &[u16]) -> Cleanness
+    requires { ⌜ log-refusal (now log) ≡ Passed ⌝ }
+    ensures { λ r. ⌜ r ≡ cleanness (now (log .entry)) ⌝ }
 {
     let n = log.len() / 4;
     let k = first_fault(log);
     if n <= k {
-        return CleanAnswer::Yes;
+        return Cleanness::Yes;
     }
-    if seen(log, n, 5, log[4 * k + 3]) {
-        return CleanAnswer::Unclean(Fault::Aborted(k));
+    let step = step_at(log, k);
+    if seen(log, n, Step::ABORT, step.src) {
+        return Cleanness::Unclean(Fault::Aborted(k));
     }
-    CleanAnswer::Unclean(Fault::Unfinal(k))
+    Cleanness::Unclean(Fault::Unfinal(k))
 }
 
 // The clean verdict: yes, or the lowest faulty step with its fault.
@@ -128,7 +135,7 @@ pub fn clean(log: &[u16], work: &mut [u8]) -> CleanAnswer
         Checked::Refused(number, place) => CleanAnswer::Refused(number, place),
         Checked::Passed => {
             clear(work);
-            judge_clean(log)
+            CleanAnswer::Judged(judge_clean(log))
         }
     }
 }

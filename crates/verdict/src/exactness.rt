@@ -1,52 +1,72 @@
 // The exact verdict, for at most 8 committed transactions.
-use crate::Answer;
-use crate::Checked;
-use crate::CleanAnswer;
+use crate::answers::Answer;
+use crate::answers::Checked;
+use crate::answers::Cleanness;
+use crate::answers::ExactWitnessed;
+use crate::answers::Exactness;
+use crate::answers::WitnessAnswer;
+use crate::answers::Witnessed;
 use crate::cleanness::judge_clean;
-use crate::edges::clear_witness;
+use crate::leaving::exact_without_members;
+use crate::leaving::leave;
+use crate::leaving::without_members;
 use crate::limits::Transaction;
 use crate::refusal::admit_witness;
 use crate::search::find_order;
-use crate::walk::clear;
-use crate::walk::committed;
+use crate::walk::committed_count;
 ghost use mathlib.Core.Path.{_≡_};
-ghost use Rattle.words.specs.Tests.{_is_, fails};
-ghost use Rattle.verdict.specs.Limits.{witness-entries, work-bytes};
-ghost use Rattle.verdict.specs.Refusal.{_at_when_, _else-try_, log-refusal, search-refusal};
-ghost use Rattle.verdict.specs.Said.{said-refusal};
+ghost use Prim.Native.Nat.{_≤_};
+ghost use Rattle.verdict.specs.Limits.{transactions, most-searched};
+ghost use Rattle.verdict.specs.Log.{committed-count};
+ghost use Rattle.verdict.specs.Refusal.{log-refusal};
+ghost use Rattle.verdict.specs.Clean.{cleanness};
+ghost use Rattle.verdict.specs.Judgement.{Holds, ExactIs};
+ghost use Rattle.verdict.specs.Exact.{Exact};
 ghost use Rattle.verdict.specs.Call.{ExactCall};
+ghost use Rattle.verdict.specs.declared.answers.Checked.the-variants.{Passed};
 
-// 12 where a buffer has a wrong length, what the check finds, and then 13 where too many are committed.
-fn admit_search(log: &[u16], work: usize, witness: usize) -> Checked
-    ensures { λ r. ⌜ r ≡ said-refusal (12 at 0 when fails (work is work-bytes) else-try 12 at 0 when fails (witness is witness-entries)
-        else-try log-refusal (now (log .entry)) else-try search-refusal (now (log .entry))) ⌝ }
+// The exact verdict of a well-formed log with few enough committed, by its clean verdict.
+fn judge_search(log: &[u16], clean: Cleanness) -> Witnessed
+    requires { ⌜ (log-refusal (now log) ≡ Passed) × (clean ≡ cleanness (now log)) × (committed-count (now log) ≤ most-searched) ⌝ }
+    ensures { λ r. ⌜ Holds (Exact transactions (now (log .entry))) r ⌝ }
 {
-    let admitted = admit_witness(log, work, witness);
-    let Checked::Passed = admitted else {
-        return admitted;
-    };
-    let n = committed(log);
-    if Transaction::SEARCHED < n {
-        return Checked::Refused(13, n);
+    if let Cleanness::Unclean(fault) = clean {
+        return without_members(Answer::Unclean(fault));
     }
-    Checked::Passed
+    find_order(log)
+}
+
+// The exact verdict of a well-formed log, by its clean verdict: over, where more are committed than the search takes.
+pub(crate) fn judge_exact(log: &[u16], clean: Cleanness) -> ExactWitnessed
+    requires { ⌜ (log-refusal (now log) ≡ Passed) × (clean ≡ cleanness (now log)) ⌝ }
+    ensures { λ r. ⌜ ExactIs (now (log .entry)) r ⌝ }
+{
+    let n = committed_count(log);
+    if Transaction::SEARCHED < n {
+        return exact_without_members(Exactness::Over(n));
+    }
+    let found = judge_search(log, clean);
+    let answer = found.answer;
+    let list = found.list;
+    ExactWitnessed {
+        exactness: Exactness::Searched(answer),
+        list,
+    }
 }
 
 // The exact verdict: the fault of an unclean read, or else the first order that explains loosely, or none.
-pub fn exact(log: &[u16], work: &mut [u8], witness: &mut [u16]) -> Answer
+pub fn exact(log: &[u16], work: &mut [u8], witness: &mut [u16]) -> WitnessAnswer
     ensures { λ r. ⌜ ExactCall (now (log .entry)) (now (work .entry)) (now (witness .entry)) r (now (work .exit)) (now (witness .exit)) ⌝ }
 {
-    let admitted = admit_search(log, work.len(), witness.len());
-    match admitted {
-        Checked::Refused(number, place) => Answer::Refused(number, place),
-        Checked::Passed => {
-            clear(work);
-            clear_witness(witness);
-            let judged = judge_clean(log);
-            if let CleanAnswer::Unclean(fault) = judged {
-                return Answer::Unclean(fault);
-            }
-            find_order(log, witness)
-        }
+    let admitted = admit_witness(log, work.len(), witness.len());
+    if let Checked::Refused(number, place) = admitted {
+        return WitnessAnswer::Refused(number, place);
+    }
+    let found = judge_exact(log, judge_clean(log));
+    let exactness = found.exactness;
+    let list = found.list;
+    match exactness {
+        Exactness::Over(n) => WitnessAnswer::Refused(13, n),
+        Exactness::Searched(answer) => leave(work, witness, Witnessed { answer, list }),
     }
 }

@@ -1,27 +1,39 @@
 // "Next": the first explaining order that comes later than the one handed in.
-use crate::Answer;
-use crate::Checked;
-use crate::CleanAnswer;
+use crate::answers::Answer;
+use crate::answers::Checked;
+use crate::answers::Cleanness;
+use crate::answers::WitnessAnswer;
+use crate::answers::Witnessed;
 use crate::cleanness::judge_clean;
 use crate::edges::committed_ones;
+use crate::leaving::leave;
+use crate::leaving::without_members;
 use crate::limits::Log;
 use crate::limits::Transaction;
 use crate::refusal::check;
 use crate::version_graph::draw;
-use crate::walk::clear;
 ghost use mathlib.Core.Path.{_≡_};
 ghost use mathlib.Core.Bool.{true};
 ghost use Prim.Native.Nat.{_≤_};
 ghost use lib.ListN.{length, drop};
 ghost use Rattle.words.specs.Tests.{_is_, fails};
 ghost use Rattle.words.specs.Lists.{all};
-ghost use Rattle.verdict.specs.Limits.{witness-entries, work-bytes};
-ghost use Rattle.verdict.specs.Refusal.{taken, _at_when_, _else-try_, log-refusal};
+ghost use Rattle.graph.specs.Matrix.{matrix-order};
+ghost use Rattle.verdict.specs.Limits.{transactions, witness-entries, order-entries, work-bytes};
+ghost use Rattle.verdict.specs.Refusal.{_at_when_, _else-try_, log-refusal};
 ghost use Rattle.verdict.specs.Clean.{is-clean};
 ghost use Rattle.verdict.specs.Version.{version-edge};
-ghost use Rattle.verdict.specs.Said.{said-refusal};
 ghost use Rattle.verdict.specs.Call.{NextCall};
-ghost use Rattle.verdict.specs.Walk.{Committed, Matrix, Split, FollowCall};
+ghost use Rattle.verdict.specs.Inner.Marks.{Committed};
+ghost use Rattle.verdict.specs.Inner.Edges.{Drawn};
+ghost use Rattle.verdict.specs.Inner.Following.{Split, Brings, Comes};
+ghost use Rattle.verdict.specs.declared.answers.Checked.the-variants.{Passed, Refused};
+
+// What comes after an order: 14 where it is not on the list, or the next order, or none.
+pub struct Following {
+    pub checked: Checked,
+    pub found: Witnessed,
+}
 
 // How many numbers stand before the first 0.
 fn count_members(order: &[u16]) -> usize
@@ -52,53 +64,79 @@ fn all_zero(order: &[u16], k: usize) -> bool
     true
 }
 
+// An order that is not on the list.
+fn not_listed() -> Following
+    ensures { λ r. ⌜ r .checked ≡ Refused 14 0 ⌝ }
+{
+    Following {
+        checked: Checked::Refused(14, 0),
+        found: without_members(Answer::None),
+    }
+}
+
+// The next order that graph finds, as an answer.
+fn bring(matrix: &[u8; Log::WORK], part: [u8; Transaction::COUNT], order: &[u16]) -> Witnessed
+    requires { ⌜ matrix-order transactions (now matrix) part (now order) ≡ true ⌝ }
+    ensures { λ r. ⌜ Brings (now (matrix .entry)) part (now (order .entry)) r ⌝ }
+{
+    let later = graph::next(matrix, part, order);
+    let found = later.found;
+    let list = later.list;
+    let count = later.count;
+    if found {
+        return Witnessed {
+            answer: Answer::Order(count),
+            list,
+        };
+    }
+    Witnessed {
+        answer: Answer::None,
+        list,
+    }
+}
+
 // The next order in the graph of a clean log, or 14 where the one handed in is not on the list.
 fn follow(
     log: &[u16],
     matrix: &[u8; Log::WORK],
     part: [u8; Transaction::COUNT],
     order: &[u16],
-    work: &mut [u8],
-    witness: &mut [u16],
-) -> Answer
-    requires { ⌜ (log-refusal (now log) ≡ taken) × (is-clean (now log) ≡ true) × Committed (now log) part × Matrix (version-edge (now log)) (now matrix)
-        × (length (now work) ≡ work-bytes) × (length (now witness) ≡ witness-entries) ⌝ }
-    ensures { λ r. ⌜ FollowCall (now (log .entry)) (now (order .entry)) (now (work .entry)) (now (witness .entry)) r (now (work .exit)) (now (witness .exit)) ⌝ }
+) -> Following
+    requires { ⌜ (log-refusal (now log) ≡ Passed) × (is-clean (now log) ≡ true) × Committed (now log) part × Drawn (version-edge (now log)) (now matrix) ⌝ }
+    ensures { λ r. ⌜ Comes (now (log .entry)) (now (order .entry)) r ⌝ }
 {
     let k = count_members(order);
     if !all_zero(order, k) {
-        return Answer::Refused(14, 0);
+        return not_listed();
     }
     if !graph::keeps(matrix, part, &order[..k]) {
-        return Answer::Refused(14, 0);
+        return not_listed();
     }
-    let found = graph::next(matrix, part, &order[..k], witness);
-    clear(work);
-    match found {
-        graph::Later::Found(n) => Answer::Order(n),
-        graph::Later::Nothing => Answer::Nothing,
+    Following {
+        checked: Checked::Passed,
+        found: bring(matrix, part, &order[..k]),
     }
 }
 
 // What comes after an order that is handed in with a well-formed log.
-fn after_order(log: &[u16], order: &[u16], work: &mut [u8], witness: &mut [u16]) -> Answer
-    requires { ⌜ (log-refusal (now log) ≡ taken) × (length (now work) ≡ work-bytes) × (length (now witness) ≡ witness-entries) ⌝ }
-    ensures { λ r. ⌜ FollowCall (now (log .entry)) (now (order .entry)) (now (work .entry)) (now (witness .entry)) r (now (work .exit)) (now (witness .exit)) ⌝ }
+fn after_order(log: &[u16], order: &[u16]) -> Following
+    requires { ⌜ log-refusal (now log) ≡ Passed ⌝ }
+    ensures { λ r. ⌜ Comes (now (log .entry)) (now (order .entry)) r ⌝ }
 {
-    let judged = judge_clean(log);
-    if let CleanAnswer::Unclean(_) = judged {
-        return Answer::Refused(14, 0);
+    let clean = judge_clean(log);
+    if let Cleanness::Unclean(_) = clean {
+        return not_listed();
     }
     let part = committed_ones(log);
     let mut matrix = [0u8; Log::WORK];
     draw(log, &mut matrix, &part);
-    follow(log, &matrix, part, order, work, witness)
+    follow(log, &matrix, part, order)
 }
 
 // 12 where a buffer or the order handed in has a wrong length, and then what the check finds.
 fn admit_order(log: &[u16], work: usize, witness: usize, order: usize) -> Checked
-    ensures { λ r. ⌜ r ≡ said-refusal (12 at 0 when fails (work is work-bytes) else-try 12 at 0 when fails (witness is witness-entries)
-        else-try 12 at 0 when fails (order is witness-entries) else-try log-refusal (now (log .entry))) ⌝ }
+    ensures { λ r. ⌜ r ≡ (12 at 0 when fails (work is work-bytes) else-try 12 at 0 when fails (witness is witness-entries)
+        else-try 12 at 0 when fails (order is order-entries) else-try log-refusal (now (log .entry))) ⌝ }
 {
     if work != Log::WORK {
         return Checked::Refused(12, 0);
@@ -113,12 +151,18 @@ fn admit_order(log: &[u16], work: usize, witness: usize, order: usize) -> Checke
 }
 
 // The first explaining order that comes later than the one handed in, or none.
-pub fn next(log: &[u16], order: &[u16], work: &mut [u8], witness: &mut [u16]) -> Answer
+pub fn next(log: &[u16], order: &[u16], work: &mut [u8], witness: &mut [u16]) -> WitnessAnswer
     ensures { λ r. ⌜ NextCall (now (log .entry)) (now (order .entry)) (now (work .entry)) (now (witness .entry)) r (now (work .exit)) (now (witness .exit)) ⌝ }
 {
     let admitted = admit_order(log, work.len(), witness.len(), order.len());
-    match admitted {
-        Checked::Refused(number, place) => Answer::Refused(number, place),
-        Checked::Passed => after_order(log, order, work, witness),
+    if let Checked::Refused(number, place) = admitted {
+        return WitnessAnswer::Refused(number, place);
+    }
+    let following = after_order(log, order);
+    let checked = following.checked;
+    let found = following.found;
+    match checked {
+        Checked::Refused(number, place) => WitnessAnswer::Refused(number, place),
+        Checked::Passed => leave(work, witness, found),
     }
 }

@@ -1,11 +1,13 @@
 // The check of a log: the first of the numbers 1 to 11 that applies, with its place.
-use crate::Checked;
+use crate::answers::Checked;
 use crate::limits::Log;
 use crate::limits::MadeLog;
 use crate::limits::MadeObject;
 use crate::limits::MadeTransaction;
 use crate::limits::Object;
 use crate::limits::Transaction;
+use crate::step::Step;
+use crate::step::step_at;
 use crate::walk::index;
 use crate::walk::marked;
 use crate::walk::pair_marked;
@@ -14,10 +16,10 @@ ghost use Prim.Native.Nat.{ℕ, suc, _≤_, _+_, _*_};
 ghost use lib.ListN.{length};
 ghost use Rattle.words.specs.Tests.{_is_, _below_, _upto_, fails, if_then_else_};
 ghost use Rattle.verdict.specs.Limits.{transactions, objects, witness-entries, work-bytes};
-ghost use Rattle.verdict.specs.Log.{steps, tx};
-ghost use Rattle.verdict.specs.Refusal.{_at_when_, _else-try_, tried, begun, ended, range-refusal, life-refusal, source-refusal, step-refusal, open-refusal, log-refusal};
-ghost use Rattle.verdict.specs.Said.{said-refusal};
-ghost use Rattle.verdict.specs.Walk.{numbered, in-range, open-by-marks, Marked, InRange, Written, Noted};
+ghost use Rattle.verdict.specs.Log.{steps, tx, begun, ended};
+ghost use Rattle.verdict.specs.Refusal.{_at_when_, _else-try_, tried, range-refusal, life-refusal, source-refusal, step-refusal, open-refusal, log-refusal};
+ghost use Rattle.verdict.specs.Inner.Marks.{Marked};
+ghost use Rattle.verdict.specs.Inner.Checking.{numbered, in-range, open-by-marks, InRange, Written, Noted};
 
 // Whether an object is as the kind allows it: any object, or only 0.
 fn object_fits(any: bool, x: u16) -> bool
@@ -65,11 +67,11 @@ fn range_number(k: u16, t: u16, x: u16, s: u16) -> u16
     ensures { λ r. ⌜ ((place : ℕ) → numbered r place ≡ range-refusal place k t x s) ⌝ }
 {
     match k {
-        1 => in_range(t, x, s, false, false),
-        2 => in_range(t, x, s, true, true),
-        3 => in_range(t, x, s, true, false),
-        4 => in_range(t, x, s, false, false),
-        5 => in_range(t, x, s, false, false),
+        Step::BEGIN => in_range(t, x, s, false, false),
+        Step::READ => in_range(t, x, s, true, true),
+        Step::WRITE => in_range(t, x, s, true, false),
+        Step::COMMIT => in_range(t, x, s, false, false),
+        Step::ABORT => in_range(t, x, s, false, false),
         _ => 3,
     }
 }
@@ -85,10 +87,10 @@ fn life_number(
         × Marked (suc transactions) (begun (now log) i) (now begins) × Marked (suc transactions) (ended (now log) i) (now ends) ⌝ }
     ensures { λ r. ⌜ numbered r i ≡ life-refusal (now (log .entry)) i ⌝ }
 {
-    let k = log[4 * i];
-    let t = log[4 * i + 1];
+    let step = step_at(log, i);
+    let t = step.tx;
     let begun = marked(begins, t);
-    if k == 1 {
+    if step.kind == Step::BEGIN {
         if begun {
             return 7;
         }
@@ -108,11 +110,11 @@ fn source_number(log: &[u16], i: usize, writes: &[u8; Transaction::PAIRS]) -> u1
     requires { ⌜ (4 * i + 4 ≤ length (now log)) × InRange (now log) i × Written (now log) i (now writes) ⌝ }
     ensures { λ r. ⌜ numbered r i ≡ source-refusal (now (log .entry)) i ⌝ }
 {
-    let k = log[4 * i];
-    let t = log[4 * i + 1];
-    let x = log[4 * i + 2];
-    let s = log[4 * i + 3];
-    if k != 2 {
+    let step = step_at(log, i);
+    let t = step.tx;
+    let x = step.obj;
+    let s = step.src;
+    if step.kind != Step::READ {
         return 0;
     }
     if s != 0 {
@@ -139,7 +141,8 @@ fn step_number(
     requires { ⌜ (4 * i + 4 ≤ length (now log)) × Noted (now log) i (now begins) (now ends) (now writes) ⌝ }
     ensures { λ r. ⌜ numbered r i ≡ step-refusal (now (log .entry)) i ⌝ }
 {
-    let range = range_number(log[4 * i], log[4 * i + 1], log[4 * i + 2], log[4 * i + 3]);
+    let step = step_at(log, i);
+    let range = range_number(step.kind, step.tx, step.obj, step.src);
     if range != 0 {
         return range;
     }
@@ -161,29 +164,29 @@ fn note_step(
     requires { ⌜ (4 * i + 4 ≤ length (now log)) × InRange (now log) i × Noted (now log) i (now begins) (now ends) (now writes) ⌝ }
     ensures { λ _. ⌜ Noted (now (log .entry)) (i + 1) (now (begins .exit)) (now (ends .exit)) (now (writes .exit)) ⌝ }
 {
-    let k = log[4 * i];
-    let t = index(log[4 * i + 1]);
-    if k == 1 {
+    let step = step_at(log, i);
+    let t = index(step.tx);
+    if step.kind == Step::BEGIN {
         begins[t] = 1;
         return;
     }
-    if k == 3 {
-        let x = index(log[4 * i + 2]);
+    if step.kind == Step::WRITE {
+        let x = index(step.obj);
         writes[t * Object::TABLE + x] = 1;
         return;
     }
-    if k == 4 {
+    if step.kind == Step::COMMIT {
         ends[t] = 1;
         return;
     }
-    if k == 5 {
+    if step.kind == Step::ABORT {
         ends[t] = 1;
     }
 }
 
 // 11, at the lowest transaction begun and not ended, by the marks of all steps.
 fn check_open(begins: &[u8; Transaction::TABLE], ends: &[u8; Transaction::TABLE]) -> Checked
-    ensures { λ r. ⌜ r ≡ said-refusal (tried (suc transactions) (open-by-marks (now (begins .entry)) (now (ends .entry)))) ⌝ }
+    ensures { λ r. ⌜ r ≡ tried (suc transactions) (open-by-marks (now (begins .entry)) (now (ends .entry))) ⌝ }
 {
     let mut t: u16 = 0;
     while t <= Transaction::LIMIT {
@@ -200,7 +203,7 @@ fn check_open(begins: &[u8; Transaction::TABLE], ends: &[u8; Transaction::TABLE]
 // 3 to 10, step by step, with marks carried along; and behind the last step 11.
 fn check_steps(log: &[u16], n: usize) -> Checked
     requires { ⌜ n ≡ steps (now log) ⌝ }
-    ensures { λ r. ⌜ r ≡ said-refusal (tried n (step-refusal (now (log .entry))) else-try tried (suc transactions) (open-refusal (now (log .entry)))) ⌝ }
+    ensures { λ r. ⌜ r ≡ (tried n (step-refusal (now (log .entry))) else-try tried (suc transactions) (open-refusal (now (log .entry)))) ⌝ }
 {
     let mut begins = [0u8; Transaction::TABLE];
     let mut ends = [0u8; Transaction::TABLE];
@@ -219,7 +222,7 @@ fn check_steps(log: &[u16], n: usize) -> Checked
 
 // The first of 1 to 11 that applies, with its place, or that the log is well-formed.
 pub fn check(log: &[u16]) -> Checked
-    ensures { λ r. ⌜ r ≡ said-refusal (log-refusal (now (log .entry))) ⌝ }
+    ensures { λ r. ⌜ r ≡ log-refusal (now (log .entry)) ⌝ }
 {
     if log.len() % 4 != 0 {
         return Checked::Refused(1, 0);
@@ -234,7 +237,7 @@ pub fn check(log: &[u16]) -> Checked
 
 // 12 where the work area has a wrong length, and then what the check finds.
 pub(crate) fn admit(log: &[u16], work: usize) -> Checked
-    ensures { λ r. ⌜ r ≡ said-refusal (12 at 0 when fails (work is work-bytes) else-try log-refusal (now (log .entry))) ⌝ }
+    ensures { λ r. ⌜ r ≡ (12 at 0 when fails (work is work-bytes) else-try log-refusal (now (log .entry))) ⌝ }
 {
     if work != Log::WORK {
         return Checked::Refused(12, 0);
@@ -244,7 +247,7 @@ pub(crate) fn admit(log: &[u16], work: usize) -> Checked
 
 // 12 where the work area or the witness has a wrong length, and then what the check finds.
 pub(crate) fn admit_witness(log: &[u16], work: usize, witness: usize) -> Checked
-    ensures { λ r. ⌜ r ≡ said-refusal (12 at 0 when fails (work is work-bytes) else-try 12 at 0 when fails (witness is witness-entries) else-try log-refusal (now (log .entry))) ⌝ }
+    ensures { λ r. ⌜ r ≡ (12 at 0 when fails (work is work-bytes) else-try 12 at 0 when fails (witness is witness-entries) else-try log-refusal (now (log .entry))) ⌝ }
 {
     if work != Log::WORK {
         return Checked::Refused(12, 0);

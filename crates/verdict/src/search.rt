@@ -1,7 +1,11 @@
 // The exact search: it places one transaction after another, the lowest first, and cuts off where loose replay fails.
-use crate::Answer;
+use crate::answers::Answer;
+use crate::answers::Witnessed;
+use crate::leaving::without_members;
 use crate::limits::Object;
 use crate::limits::Transaction;
+use crate::step::Step;
+use crate::step::step_at;
 use crate::walk::index;
 use crate::walk::seen;
 use crate::walk::writes_within;
@@ -10,32 +14,36 @@ ghost use mathlib.Core.Bool.{true};
 ghost use Prim.Native.Nat.{ℕ, suc, _≤_, _<_, _+_, _*_};
 ghost use lib.ListN.{length, getD, take};
 ghost use Rattle.words.specs.Tests.{_is_, fails, every, count, if_then_else_};
-ghost use Rattle.verdict.specs.Limits.{transactions, objects, most-searched, witness-entries};
+ghost use Rattle.verdict.specs.Limits.{transactions, objects, most-searched};
 ghost use Rattle.verdict.specs.Log.{steps, committed, committed-count};
-ghost use Rattle.verdict.specs.Refusal.{taken, log-refusal};
+ghost use Rattle.verdict.specs.Refusal.{log-refusal};
 ghost use Rattle.verdict.specs.Clean.{is-clean};
-ghost use Rattle.words.specs.Lists.{zeros, entries};
-ghost use Rattle.verdict.specs.Walk.{Marked};
-ghost use Rattle.verdict.specs.Placing.{needing, allows, asks, need, Needs, Writes, Placed, Searched, Found};
+ghost use Rattle.words.specs.Lists.{entries};
+ghost use Rattle.verdict.specs.Judgement.{Holds};
+ghost use Rattle.verdict.specs.Exact.{Exact};
+ghost use Rattle.verdict.specs.Inner.Marks.{Marked};
+ghost use Rattle.verdict.specs.Inner.Placing.{needing, allows, needs-source, need, Needs, Writes, Placed, Searched};
+ghost use Rattle.verdict.specs.declared.answers.Checked.the-variants.{Passed};
 
 // Whether step i is a judged read of x by t from another.
-fn asks_for(log: &[u16], t: u16, x: u16, i: usize) -> bool
+fn needs_source(log: &[u16], t: u16, x: u16, i: usize) -> bool
     requires { ⌜ 4 * i + 4 ≤ length (now log) ⌝ }
-    ensures { λ r. ⌜ r ≡ asks (now (log .entry)) t x i ⌝ }
+    ensures { λ r. ⌜ r ≡ needs-source (now (log .entry)) t x i ⌝ }
 {
-    if log[4 * i] != 2 {
+    let step = step_at(log, i);
+    if step.kind != Step::READ {
         return false;
     }
-    if log[4 * i + 1] != t {
+    if step.tx != t {
         return false;
     }
-    if log[4 * i + 2] != x {
+    if step.obj != x {
         return false;
     }
-    if log[4 * i + 3] == t {
+    if step.src == t {
         return false;
     }
-    seen(log, log.len() / 4, 4, t)
+    seen(log, log.len() / 4, Step::COMMIT, t)
 }
 
 // The need with one more source.
@@ -54,15 +62,16 @@ fn with_source(e: u16, s: u16) -> u16
 
 // What t needs to find of x.
 fn needed(log: &[u16], t: u16, x: u16) -> u16
-    requires { ⌜ log-refusal (now log) ≡ taken ⌝ }
+    requires { ⌜ log-refusal (now log) ≡ Passed ⌝ }
     ensures { λ r. ⌜ r ≡ need (now (log .entry)) t x (steps (now (log .entry))) ⌝ }
 {
     let n = log.len() / 4;
     let mut e: u16 = 0;
     let mut i = 0;
     while i < n {
-        if asks_for(log, t, x, i) {
-            e = with_source(e, log[4 * i + 3]);
+        if needs_source(log, t, x, i) {
+            let step = step_at(log, i);
+            e = with_source(e, step.src);
         }
         i += 1;
     }
@@ -78,7 +87,7 @@ pub(crate) fn committed_marks(log: &[u16]) -> [u8; Transaction::TABLE]
     let mut t: u16 = 0;
     while t <= Transaction::LIMIT {
         let mut e: u8 = 0;
-        if seen(log, n, 4, t) {
+        if seen(log, n, Step::COMMIT, t) {
             e = 1;
         }
         marks[t as usize] = e;
@@ -104,7 +113,7 @@ fn count_marks(marks: &[u8; Transaction::TABLE]) -> usize
 
 // What each committed transaction needs to find of each object.
 fn need_table(log: &[u16], marks: &[u8; Transaction::TABLE]) -> [u16; Transaction::PAIRS]
-    requires { ⌜ (log-refusal (now log) ≡ taken) × Marked (suc transactions) (committed (now log)) (now marks) ⌝ }
+    requires { ⌜ (log-refusal (now log) ≡ Passed) × Marked (suc transactions) (committed (now log)) (now marks) ⌝ }
     ensures { λ r. ⌜ Needs (now (log .entry)) r ⌝ }
 {
     let mut table = [0u16; Transaction::PAIRS];
@@ -168,7 +177,7 @@ fn fits(need: &[u16; Transaction::PAIRS], last: &[u16; Object::TABLE], t: u16) -
 }
 
 // What is last written of each object when t has run.
-fn after(
+fn last_after(
     writes: &[u8; Transaction::PAIRS],
     last: [u16; Object::TABLE],
     t: u16,
@@ -208,7 +217,7 @@ fn place(
     at: usize,
     left: usize,
 ) -> Search
-    requires { ⌜ (log-refusal (now log) ≡ taken) × (is-clean (now log) ≡ true) × Needs (now log) (now need) × Writes (now log) (now writes)
+    requires { ⌜ (log-refusal (now log) ≡ Passed) × (is-clean (now log) ≡ true) × Needs (now log) (now need) × Writes (now log) (now writes)
         × (at + left ≤ most-searched) × (left ≡ count (suc transactions) (λ t. fails (getD free t 0 is 0)))
         × Placed (now log) (take at placed) free last ⌝ }
     ensures { λ r. ⌜ Searched (now (log .entry)) (take at placed) (at + left) (r .found) (r .order) ⌝ }
@@ -227,7 +236,7 @@ fn place(
                 rest[t as usize] = 0;
                 let mut next = placed;
                 next[at] = t;
-                let then = after(writes, last, t);
+                let then = last_after(writes, last, t);
                 let behind = place(log, need, writes, rest, then, next, at + 1, left - 1);
                 let found = behind.found;
                 if found {
@@ -243,22 +252,24 @@ fn place(
     }
 }
 
-// Writes the first n of the order into an empty witness.
-fn put_order(witness: &mut [u16], order: [u16; Transaction::SEARCHED], n: usize)
-    requires { ⌜ (n ≤ most-searched) × (now witness ≡ zeros witness-entries) ⌝ }
-    ensures { λ _. ⌜ now (witness .exit) ≡ entries witness-entries (take n order) ⌝ }
+// The first n of the order, with zeros behind them.
+fn list_of(order: [u16; Transaction::SEARCHED], n: usize) -> [u16; Transaction::COUNT]
+    requires { ⌜ n ≤ most-searched ⌝ }
+    ensures { λ r. ⌜ r ≡ entries transactions (take n order) ⌝ }
 {
+    let mut list = [0u16; Transaction::COUNT];
     let mut i: usize = 0;
     while i < n {
-        witness[i] = order[i];
+        list[i] = order[i];
         i += 1;
     }
+    list
 }
 
-// The first order that explains a clean, well-formed log loosely, written into an empty witness, or that there is none.
-pub(crate) fn find_order(log: &[u16], witness: &mut [u16]) -> Answer
-    requires { ⌜ (log-refusal (now log) ≡ taken) × (is-clean (now log) ≡ true) × (committed-count (now log) ≤ most-searched) × (now witness ≡ zeros witness-entries) ⌝ }
-    ensures { λ r. ⌜ Found (now (log .entry)) r (now (witness .exit)) ⌝ }
+// The first order that explains a clean, well-formed log loosely, or that there is none.
+pub(crate) fn find_order(log: &[u16]) -> Witnessed
+    requires { ⌜ (log-refusal (now log) ≡ Passed) × (is-clean (now log) ≡ true) × (committed-count (now log) ≤ most-searched) ⌝ }
+    ensures { λ r. ⌜ Holds (Exact transactions (now (log .entry))) r ⌝ }
 {
     let marks = committed_marks(log);
     let need = need_table(log, &marks);
@@ -269,9 +280,11 @@ pub(crate) fn find_order(log: &[u16], witness: &mut [u16]) -> Answer
     let result = place(log, &need, &writes, marks, last, placed, 0, left);
     let found = result.found;
     if !found {
-        return Answer::Nothing;
+        return without_members(Answer::None);
     }
     let order = result.order;
-    put_order(witness, order, left);
-    Answer::Order(left)
+    Witnessed {
+        answer: Answer::Order(left),
+        list: list_of(order, left),
+    }
 }

@@ -1,12 +1,16 @@
 // The snapshot verdict: what each judged read should have found, and which overlapping writers clash.
-use crate::Checked;
-use crate::SnapshotAnswer;
+use crate::answers::Checked;
+use crate::answers::Snapshot;
+use crate::answers::SnapshotAnswer;
+use crate::leaving::clear;
 use crate::limits::Object;
 use crate::limits::Transaction;
 use crate::refusal::admit;
-use crate::walk::clear;
+use crate::step::Step;
+use crate::step::step_at;
 use crate::walk::first_step;
 use crate::walk::first_steps;
+use crate::walk::marked;
 use crate::walk::seen;
 use crate::walk::writers;
 use crate::walk::written;
@@ -16,25 +20,26 @@ ghost use lib.ListN.{length, getD};
 ghost use Rattle.words.specs.Tests.{_is_, _and_, fails, lowest};
 ghost use Rattle.verdict.specs.Limits.{transactions, objects};
 ghost use Rattle.verdict.specs.Log.{steps, writer};
-ghost use Rattle.verdict.specs.Refusal.{taken, log-refusal};
+ghost use Rattle.verdict.specs.Refusal.{log-refusal};
 ghost use Rattle.verdict.specs.Snapshot.{last-committed, wrong-read, snapshot-verdict};
-ghost use Rattle.verdict.specs.Said.{said-snapshot};
 ghost use Rattle.verdict.specs.Call.{SnapshotCall};
-ghost use Rattle.verdict.specs.Walk.{FirstSteps, Marked, partner, FirstClash};
+ghost use Rattle.verdict.specs.Inner.Marks.{FirstSteps, Marked};
+ghost use Rattle.verdict.specs.Inner.Clashes.{partner, FirstClash};
+ghost use Rattle.verdict.specs.declared.answers.Checked.the-variants.{Passed};
 
 // The last transaction to commit, before step b, among the committed writers of x; 0 if there is none.
 pub(crate) fn last_committed(log: &[u16], b: usize, x: u16) -> u16
-    requires { ⌜ (log-refusal (now log) ≡ taken) × (4 * b ≤ length (now log)) ⌝ }
+    requires { ⌜ (log-refusal (now log) ≡ Passed) × (4 * b ≤ length (now log)) ⌝ }
     ensures { λ r. ⌜ r ≡ last-committed (now (log .entry)) b x ⌝ }
 {
     let marks = writers(log, x);
     let mut j = b;
     while 0 < j {
         j -= 1;
-        if log[4 * j] == 4 {
-            let t = log[4 * j + 1];
-            if marks[t as usize] != 0 {
-                return t;
+        let step = step_at(log, j);
+        if step.kind == Step::COMMIT {
+            if marked(&marks, step.tx) {
+                return step.tx;
             }
         }
     }
@@ -43,29 +48,30 @@ pub(crate) fn last_committed(log: &[u16], b: usize, x: u16) -> u16
 
 // Whether step i is a judged read from another that names anyone but the last committed writer before its snapshot.
 fn is_wrong(log: &[u16], i: usize) -> bool
-    requires { ⌜ (log-refusal (now log) ≡ taken) × (4 * i + 4 ≤ length (now log)) ⌝ }
+    requires { ⌜ (log-refusal (now log) ≡ Passed) × (4 * i + 4 ≤ length (now log)) ⌝ }
     ensures { λ r. ⌜ r ≡ wrong-read (now (log .entry)) i ⌝ }
 {
     let n = log.len() / 4;
-    if log[4 * i] != 2 {
+    let step = step_at(log, i);
+    if step.kind != Step::READ {
         return false;
     }
-    let t = log[4 * i + 1];
-    let s = log[4 * i + 3];
+    let t = step.tx;
+    let s = step.src;
     if s == t {
         return false;
     }
-    if !seen(log, n, 4, t) {
+    if !seen(log, n, Step::COMMIT, t) {
         return false;
     }
-    let b = first_step(log, 1, t);
-    let right = last_committed(log, b, log[4 * i + 2]);
+    let b = first_step(log, Step::BEGIN, t);
+    let right = last_committed(log, b, step.obj);
     s != right
 }
 
 // The lowest wrong read, or the number of steps where there is none.
 fn first_wrong(log: &[u16]) -> usize
-    requires { ⌜ log-refusal (now log) ≡ taken ⌝ }
+    requires { ⌜ log-refusal (now log) ≡ Passed ⌝ }
     ensures { λ r. ⌜ r ≡ lowest (steps (now (log .entry))) (wrong-read (now (log .entry))) ⌝ }
 {
     let n = log.len() / 4;
@@ -88,7 +94,7 @@ fn partner_marks(
     t: u16,
     p: u16,
 ) -> [u8; Object::TABLE]
-    requires { ⌜ (log-refusal (now log) ≡ taken) × FirstSteps (now log) 1 (now begins) × FirstSteps (now log) 4 (now commits)
+    requires { ⌜ (log-refusal (now log) ≡ Passed) × FirstSteps (now log) 1 (now begins) × FirstSteps (now log) 4 (now commits)
         × (j ≤ steps (now log)) × (t ≤ transactions) × (p ≤ transactions) ⌝ }
     ensures { λ r. ⌜ Marked objects (λ x. partner (now (log .entry)) j t p and writer (now (log .entry)) x p) r ⌝ }
 {
@@ -128,18 +134,19 @@ struct Clash {
 
 // The first clash over commits, partners and objects; its step is the number of steps where there is none.
 fn first_clash(log: &[u16]) -> Clash
-    requires { ⌜ log-refusal (now log) ≡ taken ⌝ }
+    requires { ⌜ log-refusal (now log) ≡ Passed ⌝ }
     ensures { λ r. ⌜ FirstClash (now (log .entry)) (r .step) (r .partner) ⌝ }
 {
-    let begins = first_steps(log, 1);
-    let commits = first_steps(log, 4);
+    let begins = first_steps(log, Step::BEGIN);
+    let commits = first_steps(log, Step::COMMIT);
     let n = log.len() / 4;
     let mut j = 0;
     let mut p: u16 = 0;
     let mut x = 0;
     'search: while j < n {
-        if log[4 * j] == 4 {
-            let t = log[4 * j + 1];
+        let step = step_at(log, j);
+        if step.kind == Step::COMMIT {
+            let t = step.tx;
             let mine = written(log, t);
             p = 0;
             while p <= Transaction::LIMIT {
@@ -163,9 +170,9 @@ fn first_clash(log: &[u16]) -> Clash
 }
 
 // The snapshot verdict of a well-formed log.
-fn judge_snapshot(log: &[u16]) -> SnapshotAnswer
-    requires { ⌜ log-refusal (now log) ≡ taken ⌝ }
-    ensures { λ r. ⌜ r ≡ said-snapshot (snapshot-verdict transactions (now (log .entry))) ⌝ }
+pub(crate) fn judge_snapshot(log: &[u16]) -> Snapshot
+    requires { ⌜ log-refusal (now log) ≡ Passed ⌝ }
+    ensures { λ r. ⌜ r ≡ snapshot-verdict transactions (now (log .entry)) ⌝ }
 {
     let n = log.len() / 4;
     let k = first_wrong(log);
@@ -173,12 +180,12 @@ fn judge_snapshot(log: &[u16]) -> SnapshotAnswer
     let j = clash.step;
     let p = clash.partner;
     if k < j {
-        return SnapshotAnswer::Read(k);
+        return Snapshot::Read(k);
     }
     if j < n {
-        return SnapshotAnswer::Write(j, p);
+        return Snapshot::Write(j, p);
     }
-    SnapshotAnswer::Yes
+    Snapshot::Yes
 }
 
 // The snapshot verdict: yes, or the lowest wrong step.
@@ -190,7 +197,7 @@ pub fn snapshot(log: &[u16], work: &mut [u8]) -> SnapshotAnswer
         Checked::Refused(number, place) => SnapshotAnswer::Refused(number, place),
         Checked::Passed => {
             clear(work);
-            judge_snapshot(log)
+            SnapshotAnswer::Judged(judge_snapshot(log))
         }
     }
 }

@@ -1,53 +1,63 @@
 // The version verdict: edges from a writer to the writer of the next version, from a source to its reader, and from a reader to the
 // writer of the version after the one read.
-use crate::Answer;
-use crate::Checked;
-use crate::CleanAnswer;
+use crate::answers::Answer;
+use crate::answers::Checked;
+use crate::answers::Cleanness;
+use crate::answers::WitnessAnswer;
+use crate::answers::Witnessed;
 use crate::cleanness::judge_clean;
-use crate::edges::clear_witness;
 use crate::edges::committed_ones;
 use crate::edges::join;
 use crate::edges::show;
 use crate::edges::takes_part;
+use crate::leaving::leave;
+use crate::leaving::without_members;
+use crate::limits::Log;
 use crate::limits::Transaction;
 use crate::refusal::admit_witness;
-use crate::walk::clear;
+use crate::step::Step;
+use crate::step::step_at;
 use crate::walk::first_step;
-use crate::walk::index;
+use crate::walk::marked;
 use crate::walk::writers;
 ghost use mathlib.Core.Path.{_≡_};
 ghost use Prim.Native.Nat.{suc, _≤_, _+_, _*_};
 ghost use lib.ListN.{length};
-ghost use Rattle.verdict.specs.Limits.{transactions, witness-entries, work-bytes};
+ghost use Rattle.verdict.specs.Limits.{transactions, work-bytes};
 ghost use Rattle.verdict.specs.Log.{kind, tx, obj, src};
-ghost use Rattle.verdict.specs.Refusal.{taken, log-refusal};
-ghost use Rattle.verdict.specs.Version.{after, version-edge, Version};
+ghost use Rattle.verdict.specs.Refusal.{log-refusal};
+ghost use Rattle.verdict.specs.Clean.{cleanness};
+ghost use Rattle.verdict.specs.Judgement.{Holds};
+ghost use Rattle.verdict.specs.Version.{versions-from, version-edge, Version};
 ghost use Rattle.verdict.specs.Call.{VersionCall};
-ghost use Rattle.verdict.specs.Walk.{no-edge, next-writer, with-edge, versions-until, Committed, Matrix, Answers};
+ghost use Rattle.verdict.specs.Inner.Marks.{Committed};
+ghost use Rattle.verdict.specs.Inner.Edges.{no-edge, with-edge, Drawn};
+ghost use Rattle.verdict.specs.Inner.VersionEdges.{next-writer, versions-until};
+ghost use Rattle.verdict.specs.declared.answers.Checked.the-variants.{Passed};
 
 // From which step on a version after v's may be committed.
-fn after_version(log: &[u16], v: u16) -> usize
-    ensures { λ r. ⌜ r ≡ after (now (log .entry)) v ⌝ }
+fn versions_from(log: &[u16], v: u16) -> usize
+    ensures { λ r. ⌜ r ≡ versions-from (now (log .entry)) v ⌝ }
 {
     if v == 0 {
         return 0;
     }
-    first_step(log, 4, v) + 1
+    first_step(log, Step::COMMIT, v) + 1
 }
 
 // The writer of the next version of x after v's, or 0 where v's is the last.
 fn next_writer(log: &[u16], x: u16, v: u16) -> u16
-    requires { ⌜ log-refusal (now log) ≡ taken ⌝ }
+    requires { ⌜ log-refusal (now log) ≡ Passed ⌝ }
     ensures { λ r. ⌜ r ≡ next-writer (now (log .entry)) x v ⌝ }
 {
     let n = log.len() / 4;
     let marks = writers(log, x);
-    let mut j = after_version(log, v);
+    let mut j = versions_from(log, v);
     while j < n {
-        if log[4 * j] == 4 {
-            let t = index(log[4 * j + 1]);
-            if marks[t] != 0 {
-                return log[4 * j + 1];
+        let step = step_at(log, j);
+        if step.kind == Step::COMMIT {
+            if marked(&marks, step.tx) {
+                return step.tx;
             }
         }
         j += 1;
@@ -56,80 +66,78 @@ fn next_writer(log: &[u16], x: u16, v: u16) -> u16
 }
 
 // The edge of a write: from its transaction to the writer of the next version.
-fn mark_write(log: &[u16], work: &mut [u8], i: usize)
-    requires { ⌜ (log-refusal (now log) ≡ taken) × (4 * i + 4 ≤ length (now log)) × (length (now work) ≡ work-bytes) ⌝ }
-    ensures { λ _. ⌜ now (work .exit) ≡ with-edge (now (work .entry)) (tx (now (log .entry)) i) (next-writer (now (log .entry)) (obj (now (log .entry)) i) (tx (now (log .entry)) i)) ⌝ }
+fn mark_write(log: &[u16], matrix: &mut [u8], i: usize)
+    requires { ⌜ (log-refusal (now log) ≡ Passed) × (4 * i + 4 ≤ length (now log)) × (length (now matrix) ≡ work-bytes) ⌝ }
+    ensures { λ _. ⌜ now (matrix .exit) ≡ with-edge (now (matrix .entry)) (tx (now (log .entry)) i) (next-writer (now (log .entry)) (obj (now (log .entry)) i) (tx (now (log .entry)) i)) ⌝ }
 {
-    let t = log[4 * i + 1];
-    let next = next_writer(log, log[4 * i + 2], t);
-    join(work, t, next);
+    let step = step_at(log, i);
+    let next = next_writer(log, step.obj, step.tx);
+    join(matrix, step.tx, next);
 }
 
 // The edges of a read: from its source to the reader, and from the reader to the writer of the version after the one read.
-fn mark_read(log: &[u16], work: &mut [u8], i: usize)
-    requires { ⌜ (log-refusal (now log) ≡ taken) × (4 * i + 4 ≤ length (now log)) × (kind (now log) i ≡ 2) × (length (now work) ≡ work-bytes) ⌝ }
-    ensures { λ _. ⌜ now (work .exit) ≡ with-edge (with-edge (now (work .entry)) (src (now (log .entry)) i) (tx (now (log .entry)) i)) (tx (now (log .entry)) i) (next-writer (now (log .entry)) (obj (now (log .entry)) i) (src (now (log .entry)) i)) ⌝ }
+fn mark_read(log: &[u16], matrix: &mut [u8], i: usize)
+    requires { ⌜ (log-refusal (now log) ≡ Passed) × (4 * i + 4 ≤ length (now log)) × (kind (now log) i ≡ 2) × (length (now matrix) ≡ work-bytes) ⌝ }
+    ensures { λ _. ⌜ now (matrix .exit) ≡ with-edge (with-edge (now (matrix .entry)) (src (now (log .entry)) i) (tx (now (log .entry)) i)) (tx (now (log .entry)) i) (next-writer (now (log .entry)) (obj (now (log .entry)) i) (src (now (log .entry)) i)) ⌝ }
 {
-    let t = log[4 * i + 1];
-    let s = log[4 * i + 3];
-    let next = next_writer(log, log[4 * i + 2], s);
-    join(work, s, t);
-    join(work, t, next);
+    let step = step_at(log, i);
+    let next = next_writer(log, step.obj, step.src);
+    join(matrix, step.src, step.tx);
+    join(matrix, step.tx, next);
 }
 
 // The edges of step i.
-fn mark_step(log: &[u16], work: &mut [u8], part: &[u8; Transaction::COUNT], i: usize)
-    requires { ⌜ (log-refusal (now log) ≡ taken) × (4 * i + 4 ≤ length (now log)) × Committed (now log) (now part) × Matrix (versions-until (now log) i) (now work) ⌝ }
-    ensures { λ _. ⌜ Matrix (versions-until (now (log .entry)) (suc i)) (now (work .exit)) ⌝ }
+fn mark_step(log: &[u16], matrix: &mut [u8], part: &[u8; Transaction::COUNT], i: usize)
+    requires { ⌜ (log-refusal (now log) ≡ Passed) × (4 * i + 4 ≤ length (now log)) × Committed (now log) (now part) × Drawn (versions-until (now log) i) (now matrix) ⌝ }
+    ensures { λ _. ⌜ Drawn (versions-until (now (log .entry)) (suc i)) (now (matrix .exit)) ⌝ }
 {
-    if !takes_part(part, log[4 * i + 1]) {
+    let step = step_at(log, i);
+    if !takes_part(part, step.tx) {
         return;
     }
-    if log[4 * i] == 2 {
-        mark_read(log, work, i);
+    if step.kind == Step::READ {
+        mark_read(log, matrix, i);
         return;
     }
-    if log[4 * i] == 3 {
-        mark_write(log, work, i);
+    if step.kind == Step::WRITE {
+        mark_write(log, matrix, i);
     }
 }
 
-// Draws the edges of the version graph in a work area that has none.
-pub(crate) fn draw(log: &[u16], work: &mut [u8], part: &[u8; Transaction::COUNT])
-    requires { ⌜ (log-refusal (now log) ≡ taken) × Committed (now log) (now part) × Matrix no-edge (now work) ⌝ }
-    ensures { λ _. ⌜ Matrix (version-edge (now (log .entry))) (now (work .exit)) ⌝ }
+// Draws the edges of the version graph in a matrix that has none.
+pub(crate) fn draw(log: &[u16], matrix: &mut [u8], part: &[u8; Transaction::COUNT])
+    requires { ⌜ (log-refusal (now log) ≡ Passed) × Committed (now log) (now part) × Drawn no-edge (now matrix) ⌝ }
+    ensures { λ _. ⌜ Drawn (version-edge (now (log .entry))) (now (matrix .exit)) ⌝ }
 {
     let n = log.len() / 4;
     let mut i = 0;
     while i < n {
-        mark_step(log, work, part, i);
+        mark_step(log, matrix, part, i);
         i += 1;
     }
 }
 
-// The version verdict of a well-formed log.
-fn judge_version(log: &[u16], work: &mut [u8], witness: &mut [u16]) -> Answer
-    requires { ⌜ (log-refusal (now log) ≡ taken) × (length (now work) ≡ work-bytes) × (length (now witness) ≡ witness-entries) ⌝ }
-    ensures { λ r. ⌜ Answers (Version transactions (now (log .entry))) r (now (work .exit)) (now (witness .exit)) ⌝ }
+// The version verdict of a well-formed log, by its clean verdict.
+pub(crate) fn judge_version(log: &[u16], clean: Cleanness) -> Witnessed
+    requires { ⌜ (log-refusal (now log) ≡ Passed) × (clean ≡ cleanness (now log)) ⌝ }
+    ensures { λ r. ⌜ Holds (Version transactions (now (log .entry))) r ⌝ }
 {
-    clear(work);
-    let judged = judge_clean(log);
-    if let CleanAnswer::Unclean(fault) = judged {
-        clear_witness(witness);
-        return Answer::Unclean(fault);
+    if let Cleanness::Unclean(fault) = clean {
+        return without_members(Answer::Unclean(fault));
     }
     let part = committed_ones(log);
-    draw(log, work, &part);
-    show(work, witness, part)
+    let mut matrix = [0u8; Log::WORK];
+    draw(log, &mut matrix, &part);
+    show(&matrix, part)
 }
 
 // The version verdict: the fault of an unclean read, or else the first order that keeps every edge, or the first shortest cycle.
-pub fn version(log: &[u16], work: &mut [u8], witness: &mut [u16]) -> Answer
+pub fn version(log: &[u16], work: &mut [u8], witness: &mut [u16]) -> WitnessAnswer
     ensures { λ r. ⌜ VersionCall (now (log .entry)) (now (work .entry)) (now (witness .entry)) r (now (work .exit)) (now (witness .exit)) ⌝ }
 {
     let admitted = admit_witness(log, work.len(), witness.len());
     match admitted {
-        Checked::Refused(number, place) => Answer::Refused(number, place),
-        Checked::Passed => judge_version(log, work, witness),
+        Checked::Refused(number, place) => WitnessAnswer::Refused(number, place),
+        Checked::Passed => leave(work, witness, judge_version(log, judge_clean(log))),
     }
 }

@@ -1,15 +1,17 @@
 // Walks over a log, each asking one question of its steps.
 use crate::limits::Object;
 use crate::limits::Transaction;
+use crate::step::Step;
+use crate::step::step_at;
 ghost use mathlib.Core.Path.{_≡_};
 ghost use Prim.Native.Nat.{suc, _≤_, _<_, _+_, _*_};
 ghost use lib.ListN.{length, getD};
 ghost use Rattle.words.specs.Tests.{_is_, _upto_, _and_, fails, some, lowest};
-ghost use Rattle.words.specs.Lists.{zeros};
 ghost use Rattle.verdict.specs.Limits.{transactions, objects};
 ghost use Rattle.verdict.specs.Log.{steps, writes, writer, committed-count};
-ghost use Rattle.verdict.specs.Refusal.{taken, log-refusal};
-ghost use Rattle.verdict.specs.Walk.{does, FirstSteps, Marked};
+ghost use Rattle.verdict.specs.Refusal.{log-refusal};
+ghost use Rattle.verdict.specs.Inner.Marks.{does, FirstSteps, Marked};
+ghost use Rattle.verdict.specs.declared.answers.Checked.the-variants.{Passed};
 
 // A number of a log as an index.
 pub(crate) fn index(x: u16) -> usize
@@ -25,8 +27,9 @@ fn first_before(log: &[u16], n: usize, k: u16, t: u16) -> usize
 {
     let mut i = 0;
     while i < n {
-        if log[4 * i] == k {
-            if log[4 * i + 1] == t {
+        let step = step_at(log, i);
+        if step.kind == k {
+            if step.tx == t {
                 return i;
             }
         }
@@ -60,9 +63,10 @@ pub(crate) fn writes_within(log: &[u16], from: usize, to: usize, t: u16, x: u16)
 {
     let mut i = from;
     while i < to {
-        if log[4 * i] == 3 {
-            if log[4 * i + 1] == t {
-                if log[4 * i + 2] == x {
+        let step = step_at(log, i);
+        if step.kind == Step::WRITE {
+            if step.tx == t {
+                if step.obj == x {
                     return true;
                 }
             }
@@ -92,14 +96,15 @@ pub(crate) fn pair_marked(marks: &[u8; Transaction::PAIRS], t: u16, x: u16) -> b
 }
 
 // How many transactions committed: the commits in the log.
-pub fn committed(log: &[u16]) -> usize
+pub fn committed_count(log: &[u16]) -> usize
     ensures { λ r. ⌜ r ≡ committed-count (now (log .entry)) ⌝ }
 {
     let n = log.len() / 4;
     let mut i = 0;
     let mut total = 0;
     while i < n {
-        if log[4 * i] == 4 {
+        let step = step_at(log, i);
+        if step.kind == Step::COMMIT {
             total += 1;
         }
         i += 1;
@@ -122,16 +127,17 @@ pub(crate) fn first_steps(log: &[u16], k: u16) -> [usize; Transaction::TABLE]
 
 // For each object, whether t writes it.
 pub(crate) fn written(log: &[u16], t: u16) -> [u8; Object::TABLE]
-    requires { ⌜ log-refusal (now log) ≡ taken ⌝ }
+    requires { ⌜ log-refusal (now log) ≡ Passed ⌝ }
     ensures { λ r. ⌜ Marked objects (λ x. writer (now (log .entry)) x t) r ⌝ }
 {
     let n = log.len() / 4;
     let mut marks = [0u8; Object::TABLE];
     let mut i = 0;
     while i < n {
-        if log[4 * i] == 3 {
-            if log[4 * i + 1] == t {
-                let x = index(log[4 * i + 2]);
+        let step = step_at(log, i);
+        if step.kind == Step::WRITE {
+            if step.tx == t {
+                let x = index(step.obj);
                 marks[x] = 1;
             }
         }
@@ -142,29 +148,21 @@ pub(crate) fn written(log: &[u16], t: u16) -> [u8; Object::TABLE]
 
 // For each transaction, whether it writes x.
 pub(crate) fn writers(log: &[u16], x: u16) -> [u8; Transaction::TABLE]
-    requires { ⌜ log-refusal (now log) ≡ taken ⌝ }
+    requires { ⌜ log-refusal (now log) ≡ Passed ⌝ }
     ensures { λ r. ⌜ Marked (suc transactions) (λ t. writer (now (log .entry)) x t) r ⌝ }
 {
     let n = log.len() / 4;
     let mut marks = [0u8; Transaction::TABLE];
     let mut i = 0;
     while i < n {
-        if log[4 * i] == 3 {
-            if log[4 * i + 2] == x {
-                let t = index(log[4 * i + 1]);
+        let step = step_at(log, i);
+        if step.kind == Step::WRITE {
+            if step.obj == x {
+                let t = index(step.tx);
                 marks[t] = 1;
             }
         }
         i += 1;
     }
     marks
-}
-
-// All bytes of the work area become 0.
-pub(crate) fn clear(work: &mut [u8])
-    ensures { λ _. ⌜ now (work .exit) ≡ zeros (length (now (work .entry))) ⌝ }
-{
-    for i in 0..work.len() {
-        work[i] = 0;
-    }
 }

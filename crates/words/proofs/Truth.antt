@@ -350,6 +350,20 @@ pub highest-no : (n : ℕ) (p : ℕ → Bool) → p n ≡ false → some n p ≡
 unfolding highest
 highest-no n p h k = if-false n (if some n p then highest n p else suc n) h ∙ if-true (highest n p) (suc n) k
 
+pub highest-below : (n : ℕ) (p : ℕ → Bool) → some n p ≡ true → highest n p < n
+unfolding some
+highest-below zero p h = absurd (false≢true h)
+highest-below (suc n) p h = go (decide (p n)) (λ k. highest-below n p k)
+  where
+    go : (p n ≡ true) ⊎ (p n ≡ false) → (some n p ≡ true → highest n p < n) → highest (suc n) p < suc n
+    go (inl k) rec = rw (highest-yes n p k) (omega arith)
+    go (inr k) rec = let s : some n p ≡ true = sym (or-no (some n p) k) ∙ h in rw (highest-no n p k s) (omega (arith, rec s))
+
+pub highest-none : (n : ℕ) (p : ℕ → Bool) → some n p ≡ false → highest n p ≡ n
+unfolding highest
+highest-none zero p h = refl
+highest-none (suc n) p h = if-false _ _ (none→ {n = suc n} p h n (omega arith)) ∙ if-false _ _ (none-below {i = suc n} n p h (omega arith))
+
 -- the lowest that passes one of two tests is the lower of the two lowest
 pub lowest-left : (n : ℕ) (p q : ℕ → Bool) → lowest n p < lowest n q → lowest n (λ i. p i or q i) ≡ lowest n p
 lowest-left n p q h = go (decide (some n p))

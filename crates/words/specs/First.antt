@@ -2,7 +2,6 @@
 use mathlib.Core.Path.{_≡_}
 use mathlib.Core.Bool.{Bool, true, false}
 use mathlib.Core.List.{List, [], _∷_}
-use mathlib.Core.Option.{Option, none, some as just}
 use Prim.Native.Nat.{ℕ}
 use lib.ListN.{length}
 use Rattle.words.specs.Tests.{_is_, _below_, _and_, _or_}
@@ -25,11 +24,6 @@ pub record First (earlier : List ℕ → List ℕ → Bool) (passes : List ℕ �
 -- no list passes
 abbrev pub Never : (List ℕ → Bool) → Type 0
 Never passes = (v : List ℕ) → passes v ≡ false
-
--- the dictionary-first of the lists that pass, or none where none does
-pub data Earliest (passes : List ℕ → Bool) : Option (List ℕ) → Type 0 where
-  earliest : {w : List ℕ} → First dictionary passes w → Earliest passes (just w)
-  not-any : Never passes → Earliest passes none
 
 -- a list that passes and comes later than v
 unfoldable pub later : (List ℕ → Bool) → List ℕ → List ℕ → Bool

@@ -1,4 +1,4 @@
--- Lists of numbers: members and their places, and a list as a lent buffer holds it.
+-- Lists of numbers: members and their places, and a list as an array holds it.
 use mathlib.Core.Bool.{Bool, true, false}
 use mathlib.Core.List.{List, [], _∷_, _++_}
 use Prim.Native.Nat.{ℕ, _-_}
@@ -29,6 +29,6 @@ before a b (t ∷ w) = a is t and member b w or before a b w
 unfoldable pub zeros : ℕ → List ℕ
 zeros n = replicate n 0
 
--- w as a buffer of n entries holds it: w first, and the remaining entries are 0
+-- w as an array of n entries holds it: w first, and the remaining entries are 0
 unfoldable pub entries : ℕ → List ℕ → List ℕ
 entries n w = w ++ zeros (n - length w)

@@ -1,5 +1,4 @@
--- Tests in words, and questions over the numbers below a bound. A test passes when it is `true`.
--- Each word is shut (`unfoldable`); its laws are in proofs/Truth.
+-- Tests in words, and questions over the numbers below a bound. A test passes when it is `true`. Laws are in proofs/Truth.
 use mathlib.Core.Bool.{Bool, true, false}
 use Prim.Native.Nat.{ℕ, zero, suc}
 use lib.Dec.{eqb, ltb, leb}

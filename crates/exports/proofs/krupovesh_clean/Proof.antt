@@ -1,7 +1,7 @@
 -- `krupovesh_clean` meets its contract: the number of the answer that the call gave.
 use borrow.Author.Needs.{needs}
 use Rattle.exports.specs.Packed.{packs}
-use Rattle.exports.proofs.Values.{clean-told}
+use Rattle.exports.proofs.Values.{fits, clean-short}
 use Rattle.exports.proofs.krupovesh_clean.Statement.{statement}
 use Rattle.exports.proofs.krupovesh_clean.Tie as tie
 
@@ -9,7 +9,7 @@ clean-requires : tie.Need-clean-requires
 clean-requires c κs = search needs
 
 pack-clean-requires : tie.Need-pack-clean-requires
-pack-clean-requires c κs = clean-told _ _ (c .before .before .clean .ensures) .small
+pack-clean-requires c κs = fits (clean-short _ _ (c .before .before .clean .ensures))
 
 same-length : tie.Need-same-length
 same-length c = search needs

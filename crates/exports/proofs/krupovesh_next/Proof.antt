@@ -1,15 +1,15 @@
 -- `krupovesh_next` meets its contract: the number of the answer that the call gave.
 use borrow.Author.Needs.{needs}
 use Rattle.exports.specs.Packed.{packs}
-use Rattle.exports.proofs.Values.{next-told}
+use Rattle.exports.proofs.Values.{fits, next-short}
 use Rattle.exports.proofs.krupovesh_next.Statement.{statement}
 use Rattle.exports.proofs.krupovesh_next.Tie as tie
 
 next-requires : tie.Need-next-requires
 next-requires c κs = search needs
 
-pack-answer-requires : tie.Need-pack-answer-requires
-pack-answer-requires c κs = next-told _ _ _ _ (c .before .before .before .before .next .ensures) .small
+pack-witness-requires : tie.Need-pack-witness-requires
+pack-witness-requires c κs = fits (next-short _ _ _ _ (c .before .before .before .before .next .ensures))
 
 same-length : tie.Need-same-length
 same-length c = search needs
@@ -18,8 +18,8 @@ same-length-2 : tie.Need-same-length-2
 same-length-2 c = search needs
 
 returns : tie.Need-returns
-returns c = packs _ (c .before .before .before .before .before .next .ensures) (c .pack-answer .ensures)
+returns c = packs _ (c .before .before .before .before .before .next .ensures) (c .pack-witness .ensures)
 
 pub krupovesh-next-spec : {M : Type 1} → statement M
 krupovesh-next-spec =
-    tie.close (tie.spec next-requires pack-answer-requires same-length same-length-2 returns)
+    tie.close (tie.spec next-requires pack-witness-requires same-length same-length-2 returns)

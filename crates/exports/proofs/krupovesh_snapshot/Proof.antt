@@ -1,7 +1,7 @@
 -- `krupovesh_snapshot` meets its contract: the number of the answer that the call gave.
 use borrow.Author.Needs.{needs}
 use Rattle.exports.specs.Packed.{packs}
-use Rattle.exports.proofs.Values.{snapshot-told}
+use Rattle.exports.proofs.Values.{fits, snapshot-short}
 use Rattle.exports.proofs.krupovesh_snapshot.Statement.{statement}
 use Rattle.exports.proofs.krupovesh_snapshot.Tie as tie
 
@@ -9,7 +9,7 @@ snapshot-requires : tie.Need-snapshot-requires
 snapshot-requires c κs = search needs
 
 pack-snapshot-requires : tie.Need-pack-snapshot-requires
-pack-snapshot-requires c κs = snapshot-told _ _ (c .before .before .snapshot .ensures) .small
+pack-snapshot-requires c κs = fits (snapshot-short _ _ (c .before .before .snapshot .ensures))
 
 same-length : tie.Need-same-length
 same-length c = search needs

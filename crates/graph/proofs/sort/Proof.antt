@@ -1,5 +1,5 @@
 -- `sort` meets its contract.
-use mathlib.Core.Path.{_≡_, sym, ap, _∙_}
+use mathlib.Core.Path.{_≡_, refl, sym, _∙_}
 use native.Mathlib.Omega.{arith}
 use lib.ListN.{length}
 use Rattle.words.specs.Lists.{zeros}
@@ -9,56 +9,33 @@ use borrow.Author.Needs.{needs}
 use Rattle.graph.proofs.sort.Statement.{statement}
 use Rattle.graph.proofs.sort.Tie as tie
 
-clear-requires : tie.Need-clear-requires
-clear-requires c κs = search needs
+-- where the vertices were placed, from where the code asked whether any is left
+abbrev placed : tie.After-some-left → tie.After-lay-down
+placed c = c .before .before .before
 
-place-requires : tie.Need-place-requires
-place-requires c κs =
-    let here = c .before .before .before .before .before .before .before in
-    (c .before .before .before .clear .kept .0 ∙ here .pre .1, here .pre .0, omega (arith, most 128 (here .args .m .now) (here .args .t2)))
+-- where the code asked whether any is left, from where the cycle was laid down
+abbrev asked : tie.After-part → tie.After-some-left
+asked c = c .before .before .before
+
+lay-down-requires : tie.Need-lay-down-requires
+lay-down-requires c κs = omega (arith, most 128 (c .before .args .m .now) (c .before .args .t2))
 
 some-left-requires : tie.Need-some-left-requires
 some-left-requires c κs = search needs
 
-clear-requires-2 : tie.Need-clear-requires-2
-clear-requires-2 c κs = search needs
-
 cycle-requires : tie.Need-cycle-requires
-cycle-requires c κs =
-    let here = c .before .before .before .before .before .before .before .before .before .before .before .before .before .before .before .before .before .before .before .before in (
-      c .before .before .before .before .clear2 .kept .0 ∙ c .before .before .before .before .before .before .before .before .before .before .before .before .place .kept .0 ∙ c .before .before .before .before .before .before .before .before .before .before .before .before .before .before .before .before .clear .kept .0 ∙ here .pre .1,
-      here .pre .0,
-      c .before .before .before .before .before .before .before .before .before .before .before .before .place .ensures .cycle (sym (c .before .before .before .before .before .before .before .some-left .ensures) ∙ c .before .before .before .before .before .before .if1 .taken),
-    )
-
-same-length : tie.Need-same-length
-same-length c = search needs
+cycle-requires c κs = placed (asked c) .lay-down .ensures .cycle (sym (asked c .some-left .ensures) ∙ c .before .before .if1 .taken)
 
 returns : tie.Need-returns
-returns c =
-    let here = c .before .before .before .before .before .before .before .before .before .before .before .before .before .before .before .before .before .before .before .before .before .before .before in
-    let size : length (here .args .t2) ≡ 128 = search needs in
-    sort-cycle _ _ size _ (c .before .before .before .before .before .before .before .clear2 .ensures ∙ ap zeros (c .before .before .before .before .before .before .before .before .before .before .before .before .before .before .before .place .kept .0 ∙ c .before .before .before .before .before .before .before .before .before .before .before .before .before .before .before .before .before .before .before .clear .kept .0 ∙ here .pre .1)) _ _ (c .before .before .cycle .ensures)
-
-same-length-2 : tie.Need-same-length-2
-same-length-2 c = search needs
+unfolding zeros
+returns c = sort-cycle _ _ _ refl (c .cycle .ensures)
 
 returns-2 : tie.Need-returns-2
+unfolding zeros
 returns-2 c =
-    let here = c .before .before .before .before .before .before .before .before .before .before .before .before .before .before in
-    let size : length (here .args .t2) ≡ 128 = search needs in
-    sort-order _ _ size _ (c .before .before .before .before .before .before .before .before .before .before .clear .ensures ∙ ap zeros (here .pre .1)) _ _ _ (c .before .before .before .before .before .before .place .ensures) (sym (c .before .some-left .ensures) ∙ c .if1 .left)
+    let size : length (placed (c .before) .before .before .args .t2) ≡ 128 = search needs in
+    sort-order _ _ size _ _ refl (placed (c .before) .lay-down .ensures) (sym (c .before .some-left .ensures) ∙ c .if1 .left)
 
 pub sort-spec : {M : Type 1} → statement M
 sort-spec =
-    tie.close
-    (tie.spec
-    clear-requires
-    place-requires
-    some-left-requires
-    clear-requires-2
-    cycle-requires
-    same-length
-    returns
-    same-length-2
-    returns-2)
+    tie.close (tie.spec lay-down-requires some-left-requires cycle-requires returns returns-2)

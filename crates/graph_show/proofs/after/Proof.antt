@@ -18,10 +18,7 @@ returns : tie.Need-returns
 returns c = search needs
 
 next-requires : tie.Need-next-requires
-next-requires c κs = (search needs, search needs, sym (c .before .before .before .keeps .ensures) ∙ not-false _ (c .before .before .if1 .left))
-
-enum-known-k : tie.Need-enum-known-k
-enum-known-k c = search needs
+next-requires c κs = sym (c .before .keeps .ensures) ∙ not-false _ (c .if1 .left)
 
 slice-aggregate-write-all-2 : tie.Need-slice-aggregate-write-all-2
 slice-aggregate-write-all-2 c = search needs
@@ -31,9 +28,6 @@ write-all-requires-2 c κs = search needs
 
 list-requires : tie.Need-list-requires
 list-requires c κs = search needs
-
-enum-told : tie.Need-enum-told
-enum-told c = search needs
 
 slice-aggregate-write-all-3 : tie.Need-slice-aggregate-write-all-3
 slice-aggregate-write-all-3 c = search needs
@@ -56,11 +50,9 @@ after-spec =
     write-all-requires
     returns
     next-requires
-    enum-known-k
     slice-aggregate-write-all-2
     write-all-requires-2
     list-requires
-    enum-told
     slice-aggregate-write-all-3
     write-all-requires-3
     returns-2

@@ -15,7 +15,9 @@ array-share-prefix-given c = search needs
 
 slice-aggregate-after : tie.Need-slice-aggregate-after
 slice-aggregate-after c =
-    let e : length (c .before .before .args .t3) ≡ 128 = search needs in sym (length-take-le (c .before .before .args .n) (c .before .before .args .t3) (omega arith))
+    let here = c .before .before .args in
+    let size : length (here .t3) ≡ 128 = search needs in
+    sym (length-take-le (here .n) (here .t3) (omega arith))
 
 after-requires : tie.Need-after-requires
 after-requires c κs = search needs

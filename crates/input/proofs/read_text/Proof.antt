@@ -39,32 +39,51 @@ part-part-end c = search needs
 read-requires : tie.Need-read-requires Inv-loop μ-loop
 read-requires c κs = tt
 
+-- the turn's start, from where a part was read; and that reading, from where its bytes were counted
+abbrev turn : tie.After-read Inv-loop μ-loop → tie.At-loop Inv-loop μ-loop
+turn c = c .before .before .before .before
+
+abbrev reading : tie.After-count Inv-loop μ-loop → tie.After-read Inv-loop μ-loop
+reading c = c .before .before .before .before .before
+
+-- the buffer with the part that was read
+after-reading : tie.After-read Inv-loop μ-loop → List ℕ
+after-reading c = let l = turn c .loop in putMid (l .n) (length (l .text) - l .n) (l .text) (c .read .last .1 .0)
+
+-- it is as long as it was
+filled : (c : tie.After-read Inv-loop μ-loop) → length (after-reading c) ≡ length (turn c .loop .text)
+unfolding after-reading
+filled c = let l = turn c .loop in same-len-mid (l .n) (length (l .text) - l .n) (l .text) (c .read .last .1 .0) (c .read .kept .1 .0)
+
 same-length : tie.Need-same-length Inv-loop μ-loop
-same-length c = let l = c .before .before .before .before .before .before .before .before .before .loop in same-len-mid (l .n) (length (l .text) - l .n) (l .text) (c .before .before .before .before .before .read .last .1 .0) (c .before .before .before .before .before .read .kept .1 .0) ∙ l .inv .1
+unfolding after-reading
+same-length c = let r = c .before .before .before .before .before in filled r ∙ turn r .loop .inv .1
 
 returns : tie.Need-returns Inv-loop μ-loop
-returns c =
-    let l = c .before .before .before .before .before .before .before .before .before .loop in
-    counted (putMid (l .n) (length (l .text) - l .n) (l .text) (c .before .before .before .before .before .read .last .1 .0)) 0 (omega arith)
+unfolding after-reading
+returns c = counted (after-reading (c .before .before .before .before .before)) 0 (omega arith)
 
 count-requires : tie.Need-count-requires Inv-loop μ-loop
 count-requires c κs = tt
 
 same-length-2 : tie.Need-same-length-2 Inv-loop μ-loop
-same-length-2 c = let l = c .before .before .before .before .before .before .before .before .before .before .before .before .loop in same-len-mid (l .n) (length (l .text) - l .n) (l .text) (c .before .before .before .before .before .before .before .before .read .last .1 .0) (c .before .before .before .before .before .before .before .before .read .kept .1 .0) ∙ l .inv .1
+unfolding after-reading
+same-length-2 c = let r = reading (c .before .before .before) in filled r ∙ turn r .loop .inv .1
 
 returns-2 : tie.Need-returns-2 Inv-loop μ-loop
+unfolding after-reading
 returns-2 c =
-    let l = c .before .before .before .before .before .before .before .before .before .before .before .before .loop in
-    let r = c .before .before .before .before .before .before .before .before .read in
-    counted (putMid (l .n) (length (l .text) - l .n) (l .text) (r .last .1 .0)) (l .n)
-    (omega (arith, same-len-mid (l .n) (length (l .text) - l .n) (l .text) (r .last .1 .0) (r .kept .1 .0), l .inv .0, l .inv .1))
+    let r = reading (c .before .before .before) in
+    let l = turn r .loop in
+    counted (after-reading r) (l .n) (omega (arith, filled r, l .inv .0, l .inv .1))
 
 -- what was read is within the rest
-within : (c : tie.Else2 Inv-loop μ-loop) → c .before .before .before .count .result ≤ length (c .before .before .before .before .before .before .before .before .before .before .before .before .loop .text) - c .before .before .before .before .before .before .before .before .before .before .before .before .loop .n
+within : (c : tie.Else2 Inv-loop μ-loop) → let count = c .before .before .before in let l = turn (reading count) .loop in count .count .result ≤ length (l .text) - l .n
 within c =
-    let l = c .before .before .before .before .before .before .before .before .before .before .before .before .loop in
-    omega (arith, c .before .before .before .count .ensures .0 .0, c .before .before .before .before .before .before .before .before .read .kept .1 .0, rest-length (l .text) (l .n) (omega arith))
+    let count = c .before .before .before in
+    let r = reading count in
+    let l = turn r .loop in
+    omega (arith, count .count .ensures .0 .0, r .read .kept .1 .0, rest-length (l .text) (l .n) (omega (arith, l .inv .0, l .inv .1)))
 
 add-n : tie.Need-add-n Inv-loop μ-loop
 add-n c = omega (arith, within c)
@@ -73,9 +92,8 @@ loop-less : tie.Need-loop-less Inv-loop μ-loop
 loop-less c = omega (arith, within c)
 
 loop-again : tie.Need-loop-again Inv-loop μ-loop
-loop-again c =
-    let l = c .before .before .before .before .before .before .before .before .before .before .before .before .loop in
-    (omega (arith, within c), same-len-mid (l .n) (length (l .text) - l .n) (l .text) (c .before .before .before .before .before .before .before .before .read .last .1 .0) (c .before .before .before .before .before .before .before .before .read .kept .1 .0) ∙ l .inv .1)
+unfolding after-reading
+loop-again c = let r = reading (c .before .before .before) in (omega (arith, within c), filled r ∙ turn r .loop .inv .1)
 
 same-length-3 : tie.Need-same-length-3 Inv-loop μ-loop
 same-length-3 c = c .before .loop .inv .1

@@ -1,40 +1,36 @@
 -- `print_report` is safe: the length of the report is within its buffer.
 use borrow.Author.Needs.{needs}
 use native.Mathlib.Omega.{arith}
-use mathlib.Core.Path.{_≡_, sym, subst, _∙_}
+use mathlib.Core.Path.{sym, subst}
 use mathlib.Core.List.{List}
 use Prim.Native.Nat.{ℕ, _≤_}
-use lib.ListN.{length, length-replicate}
+use lib.ListN.{length, length-replicate, replicate}
 use lib.Seq.{length-take-le}
 use Rattle.text.specs.ReportCall.{report-bytes, ReportCall}
-use Rattle.text.specs.declared.reports.ReportAnswer.{ReportAnswer}
-use Rattle.text.specs.declared.reports.ReportAnswer.the-variants.{Length}
+use Rattle.text.specs.declared.TextAnswer.{TextAnswer}
 use Rattle.text.proofs.ReportCalls.{reported-length}
 use Rattle.krupovesh.proofs.print_report.Statement.{statement}
 use Rattle.krupovesh.proofs.print_report.Tie as tie
 
-answered-length : {text steps work witness out steps′ work′ witness′ out′ : List ℕ} {r : ReportAnswer} {n : ℕ} → r ≡ Length n
-    → ReportCall text steps work witness out r steps′ work′ witness′ out′ → n ≤ report-bytes
-answered-length {text} {steps} {work} {witness} {out} {steps′} {work′} {witness′} {out′} e p =
-    reported-length text steps work witness out (subst (λ (r : ReportAnswer). ReportCall text steps work witness out r steps′ work′ witness′ out′) e p)
+-- from a report that was made: the call, and the entry
+abbrev called : tie.After-answer → tie.After-report
+called c = c .before .before .before
+
+abbrev entry : tie.After-answer → tie.Start
+entry c = called c .before .before .before
 
 -- the length that was answered
-within : (c : tie.After-answer) → c .answer .given .0 .0 ≤ length (c .before .before .before .before .before .before .report .last .1 .1 .1 .1 .0)
-within c =
-    let k : length (c .before .before .before .before .before .before .report .last .1 .1 .1 .1 .0) ≡ report-bytes = c .before .before .before .before .before .before .report .kept .1 .1 .1 .1 .0 ∙ length-replicate {A = ℕ} report-bytes 0 in
-    omega (arith, answered-length (c .answer .given .1) (c .before .before .before .before .before .before .report .ensures))
+short : (c : tie.After-answer) → c .answer .given .0 .0 ≤ report-bytes
+short c =
+    let text = entry c .args .text .now in
+    let out : List ℕ = replicate report-bytes 0 in
+    reported-length text out (subst (λ (r : TextAnswer). ReportCall text out r (called c .report .last .1 .0)) (c .answer .given .1) (called c .report .ensures))
+
+within : (c : tie.After-answer) → c .answer .given .0 .0 ≤ length (called c .report .last .1 .0)
+within c = omega (arith, short c, called c .report .kept .1 .0, length-replicate {A = ℕ} report-bytes 0)
 
 slice-aggregate-report : tie.Need-slice-aggregate-report
 slice-aggregate-report c = search needs
-
-slice-aggregate-report-2 : tie.Need-slice-aggregate-report-2
-slice-aggregate-report-2 c = search needs
-
-slice-aggregate-report-3 : tie.Need-slice-aggregate-report-3
-slice-aggregate-report-3 c = search needs
-
-slice-aggregate-report-4 : tie.Need-slice-aggregate-report-4
-slice-aggregate-report-4 c = search needs
 
 report-requires : tie.Need-report-requires
 report-requires c κs = search needs
@@ -65,9 +61,6 @@ print-report-spec =
     tie.close
     (tie.spec
     slice-aggregate-report
-    slice-aggregate-report-2
-    slice-aggregate-report-3
-    slice-aggregate-report-4
     report-requires
     enum-known-answer
     array-share-prefix-out

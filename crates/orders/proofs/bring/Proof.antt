@@ -1,30 +1,32 @@
 -- `bring` is safe, and each order that it brings leaves fewer to come.
 use borrow.Author.Needs.{needs}
-use mathlib.Core.Path.{_≡_, sym, subst}
+use mathlib.Core.Path.{sym}
 use mathlib.Core.Bool.{false≢true}
-use mathlib.Core.List.{List}
-use Prim.Native.Nat.{ℕ, _≤_, _<_}
+use Prim.Native.Nat.{_≤_, _<_}
 use lib.ListN.{length}
 use lib.Seq.{length-take-le}
-use Rattle.verdict.specs.Call.{NextCall}
-use Rattle.verdict.specs.declared.Answer.{Answer}
-use Rattle.verdict.specs.declared.Answer.the-variants.{Order}
-use Rattle.verdict.proofs.Held.{call-order}
-use Rattle.verdict.proofs.Listing.{asks, to-come, fewer-to-come}
+use Rattle.verdict.specs.Next.{up-to-zero}
+use Rattle.verdict.proofs.Listing.{order-turned, to-come}
+use Rattle.orders.proofs.Bringing.{members-within, fewer-left}
 use Rattle.orders.proofs.bring.Statement.{statement}
 use Rattle.orders.proofs.bring.Tie as tie
 
-brought : {log : List ℕ} (given : List ℕ) {work witness work′ witness′ : List ℕ} {r : Answer} {n : ℕ} → r ≡ Order n → NextCall log given work witness r work′ witness′
-    → (n ≤ length witness′) × (to-come log witness′ < to-come log given)
-brought {log} given {work} {witness} {work′} {witness′} e p =
-    let q = subst (λ (r : Answer). NextCall log given work witness r work′ witness′) e p in
-    (call-order (asks log given) q .room, fewer-to-come log given q)
+-- from an order that was brought: the answer, the call, and the entry
+abbrev answered : tie.After-judged → tie.After-answer
+answered c = c .before .before .before
 
--- what was answered
-answered : (c : tie.After-answer) → (c .answer .given .0 .0 ≤ length (c .before .before .before .before .next .last .1 .1 .1 .0))
-    × (to-come (c .before .before .before .before .before .before .before .before .before .args .log .now) (c .before .before .before .before .next .last .1 .1 .1 .0)
-    < to-come (c .before .before .before .before .before .before .before .before .before .args .log .now) (c .before .before .before .before .before .before .before .before .before .args .t2))
-answered c = brought (c .before .before .before .before .before .before .before .before .before .args .t2) (c .answer .given .1) (c .before .before .before .before .next .ensures)
+abbrev called : tie.After-judged → tie.After-next
+called c = answered c .before .before .before .before
+
+abbrev entry : tie.After-judged → tie.Start
+entry c = called c .before .before .before .before .before
+
+within : (c : tie.After-judged) → c .judged .given .0 .0 ≤ length (called c .next .last .1 .1 .1 .0)
+within c =
+    members-within (order-turned (entry c .args .log .now) (entry c .args .t2)) (answered c .answer .given .1) (c .judged .given .1) (called c .next .ensures)
+
+fewer : (c : tie.After-judged) → to-come (entry c .args .log .now) (up-to-zero (called c .next .last .1 .1 .1 .0)) < to-come (entry c .args .log .now) (up-to-zero (entry c .args .t2))
+fewer c = fewer-left (entry c .args .log .now) (entry c .args .t2) (answered c .answer .given .1) (c .judged .given .1) (called c .next .ensures)
 
 slice-aggregate-next : tie.Need-slice-aggregate-next
 slice-aggregate-next c = search needs
@@ -41,20 +43,29 @@ next-requires c κs = search needs
 enum-known-answer : tie.Need-enum-known-answer
 enum-known-answer c = search needs
 
+enum-known-judged : tie.Need-enum-known-judged
+enum-known-judged c = search needs
+
 array-share-prefix-order : tie.Need-array-share-prefix-order
-array-share-prefix-order c = answered (c .before) .0
+array-share-prefix-order c = within (c .before)
 
 slice-aggregate-print-order : tie.Need-slice-aggregate-print-order
-slice-aggregate-print-order c = sym (length-take-le _ _ (answered (c .before .before) .0))
+slice-aggregate-print-order c = sym (length-take-le _ _ (within (c .before .before)))
 
 print-order-requires : tie.Need-print-order-requires
 print-order-requires c κs = search needs
 
 returns : tie.Need-returns
-returns c = λ e. answered (c .before .before .before) .1
+returns c = λ e. fewer (c .before .before .before)
+
+enum-told : tie.Need-enum-told
+enum-told c = search needs
 
 returns-2 : tie.Need-returns-2
 returns-2 c = λ e. absurd (false≢true e)
+
+returns-3 : tie.Need-returns-3
+returns-3 c = λ e. absurd (false≢true e)
 
 pub bring-spec : {M : Type 1} → statement M
 bring-spec =
@@ -65,8 +76,11 @@ bring-spec =
     slice-aggregate-next-3
     next-requires
     enum-known-answer
+    enum-known-judged
     array-share-prefix-order
     slice-aggregate-print-order
     print-order-requires
     returns
-    returns-2)
+    enum-told
+    returns-2
+    returns-3)

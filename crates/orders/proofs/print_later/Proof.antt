@@ -3,6 +3,7 @@ use native.Mathlib.Omega.{arith}
 use mathlib.Core.Bool.{Bool, true, false, false≢true}
 use mathlib.Core.Path.{_≡_, refl}
 use Prim.Native.Nat.{ℕ, zero, suc, _<_}
+use Rattle.verdict.specs.Next.{up-to-zero}
 use Rattle.verdict.proofs.Listing.{to-come}
 use Rattle.orders.proofs.print_later.Statement.{statement}
 use Rattle.orders.proofs.print_later.Tie as tie
@@ -21,7 +22,7 @@ abbrev Inv-loop : tie.InvT-loop
 Inv-loop log order₀ more₀ order more = Unit {0}
 
 abbrev μ-loop : tie.MeasureT-loop
-μ-loop log order₀ more₀ order more = left more (to-come log order)
+μ-loop log order₀ more₀ order more = left more (to-come log (up-to-zero order))
 
 loop-holds : tie.Need-loop-holds Inv-loop μ-loop
 loop-holds c = tt

@@ -1,23 +1,26 @@
 -- `print_listing` is safe: an order that is shown is within the witness.
 use borrow.Author.Needs.{needs}
-use mathlib.Core.Path.{sym, subst}
+use mathlib.Core.Path.{sym}
 use Prim.Native.Nat.{_≤_}
-use lib.ListN.{length, replicate}
+use lib.ListN.{length}
 use lib.Seq.{length-take-le}
-use Rattle.verdict.specs.Limits.{work-bytes, witness-entries}
 use Rattle.verdict.specs.Refusal.{log-refusal}
-use Rattle.verdict.specs.Call.{VersionCall}
-use Rattle.verdict.specs.declared.Answer.{Answer}
-use Rattle.verdict.proofs.Held.{call-order}
+use Rattle.orders.proofs.Bringing.{members-within}
 use Rattle.orders.proofs.print_listing.Statement.{statement}
 use Rattle.orders.proofs.print_listing.Tie as tie
 
--- the order that was shown
-within : (c : tie.After-answer2) → c .answer2 .given .0 .0 ≤ length (c .before .before .before .before .before .version .last .1 .1 .0)
-within c =
-    let v = c .before .before .before .before .before .version in
-    let log = c .before .before .before .before .before .before .before .before .before .args .log .now in
-    call-order (log-refusal log) (subst (λ (r : Answer). VersionCall log (replicate work-bytes 0) (replicate witness-entries 0) r (v .last .1 .0) (v .last .1 .1 .0)) (c .answer2 .given .1) (v .ensures)) .room
+-- from an order that was shown: the answer, the call, and the entry
+abbrev answered : tie.After-judged → tie.After-answer2
+answered c = c .before .before .before
+
+abbrev called : tie.After-judged → tie.After-version
+called c = answered c .before .before .before .before
+
+abbrev entry : tie.After-judged → tie.Start
+entry c = called c .before .before .before .before
+
+within : (c : tie.After-judged) → c .judged .given .0 .0 ≤ length (called c .version .last .1 .1 .0)
+within c = members-within (log-refusal (entry c .args .log .now)) (answered c .answer2 .given .1) (c .judged .given .1) (called c .version .ensures)
 
 slice-aggregate-version : tie.Need-slice-aggregate-version
 slice-aggregate-version c = search needs
@@ -34,11 +37,11 @@ enum-known-answer c = search needs
 print-refused-requires : tie.Need-print-refused-requires
 print-refused-requires c κs = search needs
 
-returns : tie.Need-returns
-returns c = search needs
-
 enum-known-answer-2 : tie.Need-enum-known-answer-2
 enum-known-answer-2 c = search needs
+
+enum-known-judged : tie.Need-enum-known-judged
+enum-known-judged c = search needs
 
 array-share-prefix-witness : tie.Need-array-share-prefix-witness
 array-share-prefix-witness c = within (c .before)
@@ -58,6 +61,9 @@ slice-aggregate-write-all c = search needs
 write-all-requires : tie.Need-write-all-requires
 write-all-requires c κs = search needs
 
+returns : tie.Need-returns
+returns c = search needs
+
 returns-2 : tie.Need-returns-2
 returns-2 c = search needs
 
@@ -70,12 +76,13 @@ print-listing-spec =
     version-requires
     enum-known-answer
     print-refused-requires
-    returns
     enum-known-answer-2
+    enum-known-judged
     array-share-prefix-witness
     slice-aggregate-print-order
     print-order-requires
     print-later-requires
     slice-aggregate-write-all
     write-all-requires
+    returns
     returns-2)

@@ -6,19 +6,27 @@ use Prim.Native.Nat.{ℕ, _*_, _≤_}
 use lib.ListN.{length, length-replicate, replicate}
 use lib.Seq.{length-take-le}
 use Rattle.text.specs.ReadCall.{step-entries, ReadCall}
-use Rattle.text.specs.declared.ReadAnswer.{ReadAnswer}
+use Rattle.text.specs.declared.TextAnswer.{TextAnswer}
 use Rattle.text.proofs.WasRead.{Was, was-read}
 use Rattle.orders.proofs.print_orders.Statement.{statement}
 use Rattle.orders.proofs.print_orders.Tie as tie
 
-was : (c : tie.After-answer2) → Was (c .before .before .before .before .before .before .args .text .now) (c .before .before .before .read .last .1 .0) (c .answer2 .given .0 .0)
-was c =
-    let text = c .before .before .before .before .before .before .args .text .now in
-    was-read text (replicate step-entries 0) (length-replicate {A = ℕ} step-entries 0)
-    (subst (λ (r : ReadAnswer). ReadCall text (replicate step-entries 0) r (c .before .before .before .read .last .1 .0)) (c .answer2 .given .1) (c .before .before .before .read .ensures))
+-- from a text that was accepted: the call, and the entry
+abbrev called : tie.After-answer2 → tie.After-read
+called c = c .before .before .before
 
-within : (c : tie.After-answer2) → 4 * c .answer2 .given .0 .0 ≤ length (c .before .before .before .read .last .1 .0)
-within c = omega (arith, was c .few, c .before .before .before .read .kept .1 .0, length-replicate {A = ℕ} step-entries 0)
+abbrev entry : tie.After-answer2 → tie.Start
+entry c = called c .before .before .before
+
+-- what was read
+was : (c : tie.After-answer2) → Was (entry c .args .text .now) (called c .read .last .1 .0) (c .answer2 .given .0 .0)
+was c =
+    let text = entry c .args .text .now in
+    was-read text (replicate step-entries 0) (length-replicate {A = ℕ} step-entries 0)
+    (subst (λ (r : TextAnswer). ReadCall text (replicate step-entries 0) r (called c .read .last .1 .0)) (c .answer2 .given .1) (called c .read .ensures))
+
+within : (c : tie.After-answer2) → 4 * c .answer2 .given .0 .0 ≤ length (called c .read .last .1 .0)
+within c = omega (arith, was c .few, called c .read .kept .1 .0, length-replicate {A = ℕ} step-entries 0)
 
 slice-aggregate-read : tie.Need-slice-aggregate-read
 slice-aggregate-read c = search needs

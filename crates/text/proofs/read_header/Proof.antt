@@ -5,18 +5,24 @@ use mathlib.Core.Path.{refl}
 use Rattle.text.specs.Bytes.{bytes}
 use Rattle.text.specs.Line.{header, sayable}
 use Rattle.text.specs.Reading.{no-header, too-many}
-use Rattle.text.specs.Finds.{Finds}
+use Rattle.text.specs.Inner.Finds.{Finds}
 use Rattle.text.specs.declared.number.Number.the-variants.{At}
 use Rattle.text.proofs.Forms.{found, not-found, line-end-apart}
 use Rattle.text.proofs.Calls.{away}
 use Rattle.text.proofs.read_header.Statement.{statement}
 use Rattle.text.proofs.read_header.Tie as tie
 
+-- the entry, from the call that looks for the header; and that call, from where a header is known
+abbrev entry : tie.After-item-at → tie.Start
+entry c = c .before .before .before .before
+
+abbrev looked : tie.After-count → tie.After-item-at
+looked c = c .before .before
+
 -- the header that was found
-header-there : (c : tie.After-count) →
-    Finds header sayable (c .before .before .before .before .before .before .args .text .now) 0 (At (c .count .given .0 .0) (c .count .given .0 .1 .0))
+header-there : (c : tie.After-count) → Finds header sayable (entry (looked c) .args .text .now) 0 (At (c .count .given .0 .0) (c .count .given .0 .1 .0))
 unfolding header bytes
-header-there c = found header sayable _ 0 (c .before .before .item-at .ensures) (c .count .given .1)
+header-there c = found header sayable _ 0 (looked c .item-at .ensures) (c .count .given .1)
 
 slice-aggregate-item-at : tie.Need-slice-aggregate-item-at
 slice-aggregate-item-at c = search needs
@@ -33,22 +39,25 @@ enum-told c = search needs
 returns : tie.Need-returns
 unfolding header bytes
 returns c =
-    let b = c .before .before .before .before .before .before .args in
-    away (b .text .now) (b .steps .now) 16 0 (no-header (not-found header sayable (b .text .now) 0 (c .before .before .item-at .ensures) (c .enum-told .given .1))) refl
+    let d = c .before .before in
+    let a = entry d .args in
+    away (a .text .now) (a .steps .now) 16 0 (no-header (not-found header sayable (a .text .now) 0 (d .item-at .ensures) (c .enum-told .given .1))) refl
 
 cast-n : tie.Need-cast-n
 cast-n c = search needs
 
 returns-2 : tie.Need-returns-2
 returns-2 c =
-    let h = header-there (c .before .before) in
-    let b = c .before .before .before .before .before .before .before .before .args in
-    away (b .text .now) (b .steps .now) 2 0 (too-many _ _ (h .0) (c .if1 .taken) (h .2)) refl
+    let d = c .before .before in
+    let h = header-there d in
+    let a = entry (looked d) .args in
+    away (a .text .now) (a .steps .now) 2 0 (too-many _ _ (h .0) (c .if1 .taken) (h .2)) refl
 
 read-steps-requires : tie.Need-read-steps-requires
 read-steps-requires c κs =
-    let h = header-there (c .before .before .before) in
-    (h .1, h .2, c .before .if1 .left, c .before .before .before .before .before .before .before .before .before .pre)
+    let d = c .before .before .before in
+    let h = header-there d in
+    (h .1, h .2, c .before .if1 .left, entry (looked d) .pre)
 
 same-length : tie.Need-same-length
 same-length c = search needs

@@ -3,17 +3,21 @@ use borrow.Author.Needs.{needs}
 use native.Mathlib.Omega.{arith}
 use mathlib.Core.Path.{subst, _∙_}
 use mathlib.Core.Bool.{false}
-use Rattle.text.specs.Finds.{Passes}
+use Rattle.text.specs.Inner.Finds.{Passes}
 use Rattle.text.specs.declared.line.Lines.{Lines}
 use Rattle.text.specs.declared.line.Lines.the-variants.{To, Bad}
 use Rattle.text.proofs.Calls.{a-bad-line, extra-bytes, all-read}
 use Rattle.text.proofs.read_steps.Statement.{statement}
 use Rattle.text.proofs.read_steps.Tie as tie
 
+-- the entry, from the first pass
+abbrev entry : tie.After-pass → tie.Start
+entry c = c .before .before .before .before
+
 -- the first pass keeps nothing; what it has found, where its answer is known
 abbrev First : tie.After-pass → Lines → Type 0
 First c r =
-    let a = c .before .before .before .before .args in
+    let a = entry c .args in
     Passes (a .text .now) (a .at) (a .n) false (a .steps .now) r (c .pass .last .1 .1 .1 .0)
 
 abbrev looked : tie.After-seen → tie.After-pass
@@ -48,7 +52,7 @@ same-length c = search needs
 
 returns : tie.Need-returns
 returns c =
-    let b = looked2 (c .before .before) .before .before .before .before in
+    let b = entry (looked2 (c .before .before)) in
     extra-bytes (b .args .text .now) (b .args .at) (b .args .n) (b .pre .1) (b .pre .2) (b .args .steps .now) _ (looked-fine (c .before .before)) (c .if1 .taken)
 
 pass-requires-2 : tie.Need-pass-requires-2
@@ -65,7 +69,7 @@ same-length-2 c = search needs
 
 returns-2 : tie.Need-returns-2
 returns-2 c =
-    let b = looked (c .before) .before .before .before .before in
+    let b = entry (looked (c .before)) in
     a-bad-line (b .args .text .now) (b .args .at) (b .args .n) (b .pre .1) (b .pre .2) (b .args .steps .now) _ (looked-bad (c .before))
 
 same-length-3 : tie.Need-same-length-3
@@ -73,15 +77,16 @@ same-length-3 c = search needs
 
 returns-3 : tie.Need-returns-3
 returns-3 c =
-    let d = c .before .before .before .before .before .before in
+    let z = c .before .before in
+    let d = z .before .before .before .before in
     let e = d .before .before in
     let f = e .before .before in
-    let b = looked2 f .before .before .before .before in
+    let b = entry (looked2 f) in
     all-read (b .args .text .now) (b .args .at) (b .args .n) (b .pre .1) (b .pre .2) (b .args .steps .now)
     (looked2 f .pass .last .1 .1 .1 .0) (d .pass2 .last .1 .1 .1 .0) _ (d .pass2 .result)
     (looked-fine f) (e .if1 .left) (d .pass2 .ensures)
     (d .pass2 .kept .1 .1 .1 .0 ∙ looked2 f .pass .kept .1 .1 .1 .0 ∙ b .pre .3)
-    (c .before .before .clear-from .ensures)
+    (z .clear-from .ensures)
 
 pub read-steps-spec : {M : Type 1} → statement M
 read-steps-spec =

@@ -1,6 +1,6 @@
 -- `pack_fault` meets its contract: each case has its number.
 use borrow.Author.Needs.{needs}
-use Rattle.exports.specs.Packed.{packed-fault}
+use Rattle.exports.specs.Packed.{fault-numbers}
 use Rattle.exports.proofs.Values.{known-small, known-packed}
 use Rattle.exports.proofs.pack.pack_fault.Statement.{statement}
 use Rattle.exports.proofs.pack.pack_fault.Tie as tie
@@ -9,23 +9,23 @@ enum-known-fault : tie.Need-enum-known-fault
 enum-known-fault c = search needs
 
 pack-requires : tie.Need-pack-requires
-unfolding packed-fault
-pack-requires c κs = known-small packed-fault (c .before .fault .given .1) (c .before .before .before .pre)
+unfolding fault-numbers
+pack-requires c κs = known-small fault-numbers (c .before .fault .given .1) (c .before .before .before .pre)
 
 enum-known-fault-2 : tie.Need-enum-known-fault-2
 enum-known-fault-2 c = search needs
 
 pack-requires-2 : tie.Need-pack-requires-2
-unfolding packed-fault
-pack-requires-2 c κs = known-small packed-fault (c .before .fault2 .given .1) (c .before .before .before .pre)
+unfolding fault-numbers
+pack-requires-2 c κs = known-small fault-numbers (c .before .fault2 .given .1) (c .before .before .before .pre)
 
 returns : tie.Need-returns
-unfolding packed-fault
-returns c = known-packed packed-fault (c .before .before .fault .given .1) (c .pack .ensures)
+unfolding fault-numbers
+returns c = known-packed fault-numbers (c .before .before .fault .given .1) (c .pack .ensures)
 
 returns-2 : tie.Need-returns-2
-unfolding packed-fault
-returns-2 c = known-packed packed-fault (c .before .before .fault2 .given .1) (c .pack2 .ensures)
+unfolding fault-numbers
+returns-2 c = known-packed fault-numbers (c .before .before .fault2 .given .1) (c .pack2 .ensures)
 
 pub pack-fault-spec : {M : Type 1} → statement M
 pack-fault-spec =

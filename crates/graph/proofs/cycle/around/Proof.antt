@@ -40,9 +40,7 @@ array-read-result : tie.Need-array-read-result
 array-read-result c = search needs
 
 returns-4 : tie.Need-returns-4
-returns-4 c =
-    let here = c .before .before .before .before .before .before .before .args in
-    c .distances .ensures .each (here .s) (omega arith) (omega arith)
+returns-4 c = c .distances .ensures .each _ (omega arith) (omega arith)
 
 pub around-spec : {M : Type 1} → statement M
 around-spec =

@@ -2,7 +2,7 @@
 use mathlib.Core.Path.{sym, ap, _∙_}
 use native.Mathlib.Omega.{arith}
 use Rattle.words.specs.Tests.{fails}
-use Rattle.graph.specs.Steps.{free}
+use Rattle.graph.specs.Inner.Peel.{free}
 use Rattle.words.proofs.Truth.{to-false, not-fails, and-true, →and, →below}
 use Rattle.graph.proofs.Peel.{free→}
 use Rattle.graph.proofs.Marks.{part→, →part}

@@ -16,6 +16,10 @@ Inv-loop m left b a₀ a = (1 ≤ a) × (a ≤ 129) × (some a (λ x. joined 128
 abbrev μ-loop : tie.MeasureT-loop
 μ-loop m left b a₀ a = 129 - a
 
+-- the top of the loop, from where the edge was asked
+abbrev top : tie.After-joins Inv-loop μ-loop → tie.At-loop Inv-loop μ-loop
+top c = c .before .before
+
 loop-holds : tie.Need-loop-holds Inv-loop μ-loop
 loop-holds c = (omega arith, omega arith, none-next 0 _ (unfold some in refl) (to-false _ (λ h. not-both (joined→ 128 _ _ _ _ h .from) (zero-out 128 _))))
 
@@ -23,7 +27,7 @@ joins-requires : tie.Need-joins-requires Inv-loop μ-loop
 joins-requires c κs = omega arith
 
 returns : tie.Need-returns Inv-loop μ-loop
-returns c = sym (→some _ (c .before .before .before .loop .a) (omega arith) (sym (c .before .joins .ensures) ∙ c .if1 .taken))
+returns c = sym (→some _ (top (c .before) .loop .a) (omega arith) (sym (c .before .joins .ensures) ∙ c .if1 .taken))
 
 add-a : tie.Need-add-a Inv-loop μ-loop
 add-a c = omega arith
@@ -32,7 +36,7 @@ loop-less : tie.Need-loop-less Inv-loop μ-loop
 loop-less c = omega arith
 
 loop-again : tie.Need-loop-again Inv-loop μ-loop
-loop-again c = (omega arith, omega arith, none-next _ _ (c .before .before .before .loop .inv .2) (sym (c .before .joins .ensures) ∙ c .if1 .left))
+loop-again c = (omega arith, omega arith, none-next _ _ (top (c .before) .loop .inv .2) (sym (c .before .joins .ensures) ∙ c .if1 .left))
 
 returns-2 : tie.Need-returns-2 Inv-loop μ-loop
 returns-2 c = sym (none-below 129 _ (c .before .loop .inv .2) (omega arith))

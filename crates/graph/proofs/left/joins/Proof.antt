@@ -42,14 +42,21 @@ sub-result-2 c = search needs
 add-result : tie.Need-add-result
 add-result c = search needs
 
-shared-slice-read-result : tie.Need-shared-slice-read-result
-shared-slice-read-result c = search needs
+element-copy-out-result : tie.Need-element-copy-out-result
+element-copy-out-result c = search needs
+
+-- where a was seen to take part, from where the byte was read
+abbrev marked : tie.After-result → tie.Else2
+marked c = c .before .before .before
+
+-- where a and b were seen to differ, from there
+abbrev differ : tie.Else2 → tie.Else1
+differ c = c .before .before
 
 returns-4 : tie.Need-returns-4
 unfolding joined _is_
 returns-4 c =
-    let a = c .before .before .before .before .before .before .args in
-    not-fails _ ∙ sym (and-true (→and (→and (→fails (→isnt (c .before .before .before .before .before .if1 .left))) (→part 128 _ _ (record { low = omega arith; high = omega arith; mark = c .before .before .before .if2 .left })))
+    not-fails _ ∙ sym (and-true (→and (→and (→fails (→isnt (differ (marked c) .if1 .left))) (→part 128 _ _ (record { low = omega arith; high = omega arith; mark = marked c .if2 .left })))
     (→part 128 _ _ (record { low = omega arith; high = omega arith; mark = c .before .if3 .left }))))
 
 pub joins-spec : {M : Type 1} → statement M
@@ -67,5 +74,5 @@ joins-spec =
     mul-result
     sub-result-2
     add-result
-    shared-slice-read-result
+    element-copy-out-result
     returns-4)

@@ -16,6 +16,10 @@ Inv-loop left v₀ v = (1 ≤ v) × (v ≤ 129) × (some v (takes-part 128 left)
 abbrev μ-loop : tie.MeasureT-loop
 μ-loop left v₀ v = 129 - v
 
+-- the top of the loop, from where the mark was read
+abbrev top : tie.After-if12 Inv-loop μ-loop → tie.At-loop Inv-loop μ-loop
+top c = c .before .before
+
 loop-holds : tie.Need-loop-holds Inv-loop μ-loop
 loop-holds c = (omega arith, omega arith, none-next 0 _ (unfold some in refl) (zero-out 128 _))
 
@@ -27,7 +31,7 @@ element-copy-out-if1 c = omega arith
 
 returns : tie.Need-returns Inv-loop μ-loop
 returns c =
-    sym (→some _ (c .before .before .before .loop .v) (omega arith) (→part 128 _ _ (record { low = omega arith; high = omega arith; mark = c .if1 .taken })))
+    sym (→some _ (top (c .before) .loop .v) (omega arith) (→part 128 _ _ (record { low = omega arith; high = omega arith; mark = c .if1 .taken })))
 
 add-v : tie.Need-add-v Inv-loop μ-loop
 add-v c = omega arith
@@ -36,7 +40,7 @@ loop-less : tie.Need-loop-less Inv-loop μ-loop
 loop-less c = omega arith
 
 loop-again : tie.Need-loop-again Inv-loop μ-loop
-loop-again c = (omega arith, omega arith, none-next _ _ (c .before .before .before .loop .inv .2) (to-false _ (λ h. part→ 128 _ _ h .mark (c .if1 .left))))
+loop-again c = (omega arith, omega arith, none-next _ _ (top (c .before) .loop .inv .2) (to-false _ (λ h. part→ 128 _ _ h .mark (c .if1 .left))))
 
 returns-2 : tie.Need-returns-2 Inv-loop μ-loop
 returns-2 c = sym (none-below 129 _ (c .before .loop .inv .2) (omega arith))

@@ -1,10 +1,10 @@
 -- `follow` meets its contract.
-use mathlib.Core.Path.{_≡_, _∙_}
+use mathlib.Core.Path.{_≡_}
 use Prim.Native.Nat.{ℕ, _<_, _-_}
 use native.Mathlib.Omega.{arith}
-use lib.ListN.{length, getD, length-set}
+use lib.ListN.{length, getD}
 use borrow.Author.Needs.{needs}
-use Rattle.graph.specs.Steps.{unmarked}
+use Rattle.graph.specs.Inner.Peel.{unmarked}
 use Rattle.graph.proofs.Marks.{Part}
 use Rattle.graph.proofs.Turn.{at-end, at-vertex, at-rest, at-room, at-same, at-higher}
 use borrow.Fn.Kinds.{In}
@@ -25,81 +25,89 @@ follow-at t = and 3 follow-kinds.ps (is 3 follow-kinds.ps μ-follow t) follow.Pr
 abbrev follow-below : ℕ → In 3 follow-kinds.ps
 follow-below t = and 3 follow-kinds.ps (falls 3 follow-kinds.ps _<_ μ-follow t) follow.Pre
 
-follow-returns : (t : ℕ) → follow-lts.Need-returns (follow-below t, follow.Post, higher-reads.Asked, higher-reads.Learnt) (follow-at t) follow.Post
-follow-returns t c =
-    let size : length (c .before .before .before .before .args .left) ≡ 128 = search needs in
-    at-end _ _ size _ _ (c .before .before .before .before .pre .1 .4) (c .if1 .taken) _
+module _ (t : ℕ) where
+  -- what the two calls are known to do where the measure is t
+  abbrev claims : follow-lts.Claims
+  claims = (follow-below t, follow.Post, higher-reads.Asked, higher-reads.Learnt)
 
-follow-mul-a : (t : ℕ) → follow-lts.Need-mul-a (follow-below t, follow.Post, higher-reads.Asked, higher-reads.Learnt) (follow-at t) follow.Post
-follow-mul-a t c = omega arith
+  -- the entry, from where the vertex at place i was read
+  abbrev start : follow-lts.After-shared-slice-known2 claims (follow-at t) follow.Post → follow-lts.Start claims (follow-at t) follow.Post
+  start c = c .before .before .before
 
-follow-shared-slice-read-a : (t : ℕ) → follow-lts.Need-shared-slice-read-a (follow-below t, follow.Post, higher-reads.Asked, higher-reads.Learnt) (follow-at t) follow.Post
-follow-shared-slice-read-a t c = omega arith
+  -- where the vertex was read, from behind the recursive call
+  abbrev read : follow-lts.After-follow claims (follow-at t) follow.Post → follow-lts.After-shared-slice-known2 claims (follow-at t) follow.Post
+  read c = c .before .before
 
--- the entry at place i is a vertex
-vertex : (t : ℕ) (c : follow-lts.After-shared-slice-known3 (follow-below t, follow.Post, higher-reads.Asked, higher-reads.Learnt) (follow-at t) follow.Post)
-    → Part 128 (c .before .before .before .before .before .args .left) (getD (c .before .before .before .before .before .args .given .now) (c .before .before .before .before .before .args .i) 0)
-vertex t c =
-    let here = c .before .before .before .before .before in
-    let size : length (here .args .left) ≡ 128 = search needs in
-    at-vertex _ _ size (here .args .given .now) (here .args .i) (here .pre .1 .4) (omega arith)
+  follow-returns : follow-lts.Need-returns claims (follow-at t) follow.Post
+  follow-returns c =
+      let size : length (c .before .before .args .left) ≡ 128 = search needs in
+      at-end _ _ size _ _ (c .before .before .pre .1 .2) (c .if1 .taken) _
 
-follow-cast-a : (t : ℕ) → follow-lts.Need-cast-a (follow-below t, follow.Post, higher-reads.Asked, higher-reads.Learnt) (follow-at t) follow.Post
-follow-cast-a t c = omega (arith, vertex t c .high)
+  follow-mul-a : follow-lts.Need-mul-a claims (follow-at t) follow.Post
+  follow-mul-a c = omega arith
 
-follow-sub-behind : (t : ℕ) → follow-lts.Need-sub-behind (follow-below t, follow.Post, higher-reads.Asked, higher-reads.Learnt) (follow-at t) follow.Post
-follow-sub-behind t c = vertex t c .low
+  follow-shared-slice-read-a : follow-lts.Need-shared-slice-read-a claims (follow-at t) follow.Post
+  follow-shared-slice-read-a c = omega arith
 
-follow-array-write-behind : (t : ℕ) → follow-lts.Need-array-write-behind (follow-below t, follow.Post, higher-reads.Asked, higher-reads.Learnt) (follow-at t) follow.Post
-follow-array-write-behind t c = omega (arith, vertex t c .low, vertex t c .high)
+  -- the entry at place i is a vertex
+  vertex : (c : follow-lts.After-shared-slice-known2 claims (follow-at t) follow.Post)
+      → Part 128 (start c .args .left) (getD (start c .args .given .now) (start c .args .i) 0)
+  vertex c =
+      let here = start c in
+      let size : length (here .args .left) ≡ 128 = search needs in
+      at-vertex _ _ size (here .args .given .now) (here .args .i) (here .pre .1 .2) (omega arith)
 
-follow-add-follow : (t : ℕ) → follow-lts.Need-add-follow (follow-below t, follow.Post, higher-reads.Asked, higher-reads.Learnt) (follow-at t) follow.Post
-follow-add-follow t c = omega arith
+  follow-cast-a : follow-lts.Need-cast-a claims (follow-at t) follow.Post
+  follow-cast-a c = omega (arith, vertex c .high)
 
-follow-follow-requires : (t : ℕ) → follow-lts.Need-follow-requires (follow-below t, follow.Post, higher-reads.Asked, higher-reads.Learnt) (follow-at t) follow.Post
-unfolding unmarked
-follow-follow-requires t c κs =
-    let here = c .before .before .before .before .before .before in
-    let size : length (here .args .left) ≡ 128 = search needs in
-    (omega arith, (omega arith, omega arith, omega arith, omega arith, at-rest _ _ size (here .args .given .now) (here .args .i) (here .pre .1 .4) (omega arith)))
+  follow-sub-behind : follow-lts.Need-sub-behind claims (follow-at t) follow.Post
+  follow-sub-behind c = vertex c .low
 
-follow-cast-out : (t : ℕ) → follow-lts.Need-cast-out (follow-below t, follow.Post, higher-reads.Asked, higher-reads.Learnt) (follow-at t) follow.Post
-follow-cast-out t c = omega (arith, vertex t (c .before .before .before .before .before) .high)
+  follow-array-write-behind : follow-lts.Need-array-write-behind claims (follow-at t) follow.Post
+  follow-array-write-behind c = omega (arith, vertex c .low, vertex c .high)
 
-follow-mul-out : (t : ℕ) → follow-lts.Need-mul-out (follow-below t, follow.Post, higher-reads.Asked, higher-reads.Learnt) (follow-at t) follow.Post
-follow-mul-out t c = omega arith
+  follow-add-follow : follow-lts.Need-add-follow claims (follow-at t) follow.Post
+  follow-add-follow c = omega arith
 
-follow-slice-write-out : (t : ℕ) → follow-lts.Need-slice-write-out (follow-below t, follow.Post, higher-reads.Asked, higher-reads.Learnt) (follow-at t) follow.Post
-follow-slice-write-out t c = omega arith
+  follow-follow-requires : follow-lts.Need-follow-requires claims (follow-at t) follow.Post
+  unfolding unmarked
+  follow-follow-requires c κs =
+      let here = start (c .before) in
+      let size : length (here .args .left) ≡ 128 = search needs in
+      (omega arith, (omega arith, omega arith, at-rest _ _ size (here .args .given .now) (here .args .i) (here .pre .1 .2) (omega arith)))
 
-follow-same-length : (t : ℕ) → follow-lts.Need-same-length (follow-below t, follow.Post, higher-reads.Asked, higher-reads.Learnt) (follow-at t) follow.Post
-follow-same-length t c = simp length-set (c .before .before .before .follow .kept .0)
+  follow-cast-list : follow-lts.Need-cast-list claims (follow-at t) follow.Post
+  follow-cast-list c = omega (arith, vertex (read (c .before)) .high)
 
-follow-returns-2 : (t : ℕ) → follow-lts.Need-returns-2 (follow-below t, follow.Post, higher-reads.Asked, higher-reads.Learnt) (follow-at t) follow.Post
-unfolding unmarked
-follow-returns-2 t c =
-    let here = c .before .before .before .before .before .before .before .before .before .before in
-    let size : length (here .args .left) ≡ 128 = search needs in
-    at-same _ _ size _ _ (here .pre .1 .4) (omega arith) _ _ _ (c .before .before .before .follow .ensures) (c .if2 .taken)
+  follow-mul-list : follow-lts.Need-mul-list claims (follow-at t) follow.Post
+  follow-mul-list c = omega arith
 
-follow-higher-requires : (t : ℕ) → follow-lts.Need-higher-requires (follow-below t, follow.Post, higher-reads.Asked, higher-reads.Learnt) (follow-at t) follow.Post
-follow-higher-requires t c κs =
-    let here = c .before .before .before .before .before .before .before .before .before .before .before in
-    let size : length (here .args .left) ≡ 128 = search needs in
-    (omega (arith, c .before .before .before .before .follow .kept .0, here .pre .1 .0), here .pre .1 .1, vertex t (c .before .before .before .before .before .before) .high, at-room _ _ size _ _ (here .pre .1 .4) (omega arith) (here .pre .1 .2))
+  follow-element-write-list : follow-lts.Need-element-write-list claims (follow-at t) follow.Post
+  follow-element-write-list c = omega arith
 
-follow-same-length-2 : (t : ℕ) → follow-lts.Need-same-length-2 (follow-below t, follow.Post, higher-reads.Asked, higher-reads.Learnt) (follow-at t) follow.Post
-follow-same-length-2 t c = c .before .before .higher .kept .0 ∙ c .before .before .before .before .before .before .before .follow .kept .0
+  follow-returns-2 : follow-lts.Need-returns-2 claims (follow-at t) follow.Post
+  unfolding unmarked
+  follow-returns-2 c =
+      let here = start (read (c .before)) in
+      let size : length (here .args .left) ≡ 128 = search needs in
+      at-same _ _ size _ _ (here .pre .1 .2) (omega arith) _ _ _ (c .before .follow .ensures) (c .if2 .taken)
 
-follow-returns-3 : (t : ℕ) → follow-lts.Need-returns-3 (follow-below t, follow.Post, higher-reads.Asked, higher-reads.Learnt) (follow-at t) follow.Post
-unfolding unmarked
-follow-returns-3 t c =
-    let here = c .before .before .before .before .before .before .before .before .before .before .before .before .before .before in
-    let size : length (here .args .left) ≡ 128 = search needs in
-    at-higher _ _ size _ _ (here .pre .1 .4) (omega arith) _ _ _ (c .before .before .before .before .before .before .before .follow .ensures) (c .before .before .before .before .if2 .left) _ _ (c .before .before .higher .ensures)
+  follow-higher-requires : follow-lts.Need-higher-requires claims (follow-at t) follow.Post
+  follow-higher-requires c κs =
+      let here = start (read (c .before .before)) in
+      let size : length (here .args .left) ≡ 128 = search needs in
+      (vertex (read (c .before .before)) .high, at-room _ _ size _ _ (here .pre .1 .2) (omega arith) (here .pre .1 .0))
+
+  follow-returns-3 : follow-lts.Need-returns-3 claims (follow-at t) follow.Post
+  unfolding unmarked
+  follow-returns-3 c =
+      let behind = c .before .before .before in
+      let here = start (read behind) in
+      let size : length (here .args .left) ≡ 128 = search needs in
+      at-higher _ _ size _ _ (here .pre .1 .2) (omega arith) _ _ _ (behind .follow .ensures) (c .before .before .if2 .left) _ _ (c .higher .ensures)
 
 pub +follow-spec : {M : Type 1} → statement M
-+follow-spec = close μ-follow λ t. follow-lts.spec (follow-below t, follow.Post, higher-reads.Asked, higher-reads.Learnt)
++follow-spec = close μ-follow λ t. follow-lts.spec (claims t)
     (follow-at t)
     follow.Post
     (follow-returns t)
@@ -110,11 +118,9 @@ pub +follow-spec : {M : Type 1} → statement M
     (follow-array-write-behind t)
     (follow-add-follow t)
     (follow-follow-requires t)
-    (follow-cast-out t)
-    (follow-mul-out t)
-    (follow-slice-write-out t)
-    (follow-same-length t)
+    (follow-cast-list t)
+    (follow-mul-list t)
+    (follow-element-write-list t)
     (follow-returns-2 t)
     (follow-higher-requires t)
-    (follow-same-length-2 t)
     (follow-returns-3 t)

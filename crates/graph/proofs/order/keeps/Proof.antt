@@ -7,7 +7,7 @@ use borrow.Author.Needs.{needs}
 use borrow.Author.Tests.{not-true, not-false}
 use Rattle.words.specs.Tests.{fails}
 use Rattle.graph.specs.Matrix.{matrix-order}
-use Rattle.graph.specs.Steps.{unmarked}
+use Rattle.graph.specs.Inner.Peel.{unmarked}
 use Rattle.words.proofs.Truth.{not-fails, and-true, and-no-left}
 use Rattle.graph.proofs.Peel.{free→}
 use Rattle.graph.proofs.Marks.{Part, part→, matrix-turn, matrix-end}
@@ -20,8 +20,16 @@ Inv-loop m given left₀ i₀ left i = (i ≤ length given) × (length left ≡ 
 abbrev μ-loop : tie.MeasureT-loop
 μ-loop m given left₀ i₀ left i = length given - i
 
+-- the top of the loop, from where the vertex was asked
+abbrev top : tie.After-begins Inv-loop μ-loop → tie.At-loop Inv-loop μ-loop
+top c = c .before .before .before .before
+
+-- the entry, from there
+abbrev start : tie.At-loop Inv-loop μ-loop → tie.Start Inv-loop μ-loop
+start c = c .before .before
+
 -- the next entry is a vertex
-begun : (c : tie.Else1 Inv-loop μ-loop) → Part 128 (c .before .before .before .before .before .loop .left) (getD (c .before .before .before .before .before .before .before .before .args .given .now) (c .before .before .before .before .before .loop .i) 0)
+begun : (c : tie.Else1 Inv-loop μ-loop) → Part 128 (top (c .before) .loop .left) (getD (start (top (c .before)) .args .given .now) (top (c .before) .loop .i) 0)
 begun c = part→ 128 _ _ (free→ (sym (c .before .begins .ensures) ∙ not-false _ (c .if1 .left)) .is-node)
 
 loop-holds : tie.Need-loop-holds Inv-loop μ-loop
@@ -34,14 +42,14 @@ shared-slice-read-v : tie.Need-shared-slice-read-v Inv-loop μ-loop
 shared-slice-read-v c = omega arith
 
 cast-v : tie.Need-cast-v Inv-loop μ-loop
-cast-v c = omega (arith, c .shared-slice-known3 .given (c .before .before .loop .i))
+cast-v c = omega (arith, c .shared-slice-known2 .given (c .before .before .loop .i))
 
 begins-requires : tie.Need-begins-requires Inv-loop μ-loop
 begins-requires c κs = omega arith
 
 returns : tie.Need-returns Inv-loop μ-loop
 returns c =
-    let at = c .before .before .before .before .before .loop in
+    let at = top (c .before) .loop in
     sym (at .inv .2 ∙ matrix-turn 128 _ _ (omega arith) _ (at .i) (omega arith) ∙ and-no-left _ (sym (c .before .begins .ensures) ∙ not-true _ (c .if1 .taken)))
 
 sub-left : tie.Need-sub-left Inv-loop μ-loop
@@ -59,7 +67,7 @@ loop-less c = omega arith
 loop-again : tie.Need-loop-again Inv-loop μ-loop
 unfolding unmarked
 loop-again c =
-    let at = c .before .before .before .before .before .loop in
+    let at = top (c .before) .loop in
     (omega arith, simp length-set (omega arith), at .inv .2 ∙ matrix-turn 128 _ _ (omega arith) _ (at .i) (omega arith) ∙ and-true (sym (c .before .begins .ensures) ∙ not-false _ (c .if1 .left)))
 
 some-left-requires : tie.Need-some-left-requires Inv-loop μ-loop

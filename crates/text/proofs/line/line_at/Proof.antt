@@ -4,7 +4,7 @@ use mathlib.Core.List.{List}
 use Prim.Native.Nat.{ℕ}
 use Rattle.text.specs.Bytes.{bytes}
 use Rattle.text.specs.Line.{op, sayable, has-word}
-use Rattle.text.specs.Finds.{Finds}
+use Rattle.text.specs.Inner.Finds.{Finds}
 use Rattle.text.specs.declared.number.Number.the-variants.{At}
 use Rattle.text.proofs.Forms.{found, not-found, begins-not, goes-not-on, blank-apart, line-end-apart, tx-item, obj-item, from-item, op-free, tx-free, obj-free, no-parts, a-line, →step}
 use Rattle.text.proofs.line.line_at.Statement.{statement}

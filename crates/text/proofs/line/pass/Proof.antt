@@ -6,7 +6,7 @@ use mathlib.Core.Logic.{⊎-elim}
 use mathlib.Core.List.{List}
 use Prim.Native.Nat.{ℕ, _-_, _≤_}
 use lib.ListN.{length}
-use Rattle.text.specs.Finds.{FindsLine}
+use Rattle.text.specs.Inner.Finds.{FindsLine}
 use Rattle.text.specs.declared.line.Line.the-variants.{At}
 use Rattle.text.proofs.Runs.{Gone, gone-nowhere, gone-on, gone-on-keeping, gone-over}
 use Rattle.text.proofs.line.pass.Statement.{statement}

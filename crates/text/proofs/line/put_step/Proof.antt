@@ -6,7 +6,7 @@ use mathlib.Core.List.{List, [], _∷_}
 use Prim.Native.Nat.{ℕ, suc, _+_, _*_, _≤_}
 use lib.ListN.{length, set, length-set}
 use lib.Seq.{sets-eq}
-use Rattle.text.specs.Put.{put-at}
+use Rattle.text.specs.Inner.Put.{put-at}
 use Rattle.text.proofs.line.put_step.Statement.{statement}
 use Rattle.text.proofs.line.put_step.Tie as tie
 

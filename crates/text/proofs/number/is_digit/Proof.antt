@@ -3,7 +3,7 @@ use mathlib.Core.Path.{_≡_}
 use mathlib.Core.Bool.{true, false}
 use Rattle.words.specs.Tests.{_upto_, _and_}
 use Rattle.words.proofs.Truth.{→upto, →not-upto}
-use Rattle.text.specs.Finds.{is-digit}
+use Rattle.text.specs.Inner.Finds.{is-digit}
 use Rattle.text.proofs.number.is_digit.Statement.{statement}
 use Rattle.text.proofs.number.is_digit.Tie as tie
 

@@ -9,7 +9,7 @@ use Prim.Native.Nat.{_+_, _-_, _≤_}
 use lib.ListN.{length, getD, drop}
 use Rattle.text.specs.Decimal.{decimal}
 use Rattle.text.specs.Line.{largest}
-use Rattle.text.specs.Finds.{is-digit}
+use Rattle.text.specs.Inner.Finds.{is-digit}
 use Rattle.text.proofs.Spelling.{is-digit→}
 use Rattle.text.proofs.Fronts.{→sayable, nothing-there, no-first-digit, first-digit, read-to, read-all, ends-early, other-byte, leading-zero, too-large, goes-on, ends-at}
 use Rattle.text.proofs.number.number_at.Statement.{statement}

@@ -13,6 +13,10 @@ Inv-loop text at word i₀ i =
 abbrev μ-loop : tie.MeasureT-loop
 μ-loop text at word i₀ i = length word - i
 
+-- the turn, from where both bytes are known
+abbrev turn : tie.After-shared-slice-known2 Inv-loop μ-loop → tie.In-loop Inv-loop μ-loop
+turn c = c .before .before .before
+
 loop-holds : tie.Need-loop-holds Inv-loop μ-loop
 loop-holds c = (omega arith, omega arith, agrees-none (c .args .word .now) (c .args .text .now) (c .args .at))
 
@@ -35,9 +39,10 @@ shared-slice-read-if2-2 c = omega arith
 
 returns-2 : tie.Need-returns-2 Inv-loop μ-loop
 returns-2 c =
-    let a = c .before .before .before .before .before .before .args in
-    let l = c .before .before .before .before .before .loop in
-    word-differs (a .word .now) (a .text .now) (a .at) (l .i) (l .inv .2) (c .before .before .before .before .loop-test .taken) (omega arith) (c .if2 .taken)
+    let t = turn (c .before) in
+    let a = t .before .before .args in
+    let l = t .before .loop in
+    word-differs (a .word .now) (a .text .now) (a .at) (l .i) (l .inv .2) (t .loop-test .taken) (omega arith) (c .if2 .taken)
 
 add-i : tie.Need-add-i Inv-loop μ-loop
 add-i c = omega arith
@@ -47,11 +52,12 @@ loop-less c = omega arith
 
 loop-again : tie.Need-loop-again Inv-loop μ-loop
 loop-again c =
-    let a = c .before .before .before .before .before .before .args in
-    let l = c .before .before .before .before .before .loop in (
+    let t = turn (c .before) in
+    let a = t .before .before .args in
+    let l = t .before .loop in (
       omega arith,
       omega arith,
-      word-goes-on (a .word .now) (a .text .now) (a .at) (l .i) (l .inv .2) (c .before .before .before .before .loop-test .taken) (omega arith) (c .if2 .left),
+      word-goes-on (a .word .now) (a .text .now) (a .at) (l .i) (l .inv .2) (t .loop-test .taken) (omega arith) (c .if2 .left),
     )
 
 returns-3 : tie.Need-returns-3 Inv-loop μ-loop

@@ -5,7 +5,7 @@ use mathlib.Core.List.{List}
 use Prim.Native.Nat.{ℕ, _+_, _-_, _≤_}
 use lib.ListN.{length, take}
 use lib.Seq.{take-all}
-use Rattle.text.specs.Put.{Puts}
+use Rattle.text.specs.Inner.Put.{Puts}
 use Rattle.text.specs.ReportLine.{numbers}
 use Rattle.text.proofs.Puts.{puts-nothing, blank-fits, number-fits, number-put}
 use Rattle.text.proofs.put.put_numbers.Statement.{statement}
@@ -18,6 +18,19 @@ Inv-loop out₀ at list place₀ left₀ out place left =
 abbrev μ-loop : tie.MeasureT-loop
 μ-loop out₀ at list place₀ left₀ out place left = left
 
+-- the entry, from a turn; how many numbers are put there; and the turn, from the calls in it
+abbrev entry : tie.At-loop Inv-loop μ-loop → tie.Start Inv-loop μ-loop
+entry c = c .before .before .before
+
+abbrev count : tie.At-loop Inv-loop μ-loop → ℕ
+count c = length (entry c .args .list .now) - c .loop .left
+
+abbrev turn : tie.After-put-byte Inv-loop μ-loop → tie.At-loop Inv-loop μ-loop
+turn c = c .before .before .before
+
+abbrev blank-put : tie.After-shared-slice-known2 Inv-loop μ-loop → tie.After-put-byte Inv-loop μ-loop
+blank-put c = c .before .before .before .before
+
 loop-holds : tie.Need-loop-holds Inv-loop μ-loop
 unfolding numbers
 loop-holds c =
@@ -27,8 +40,9 @@ loop-holds c =
 
 put-byte-requires : tie.Need-put-byte-requires Inv-loop μ-loop
 put-byte-requires c κs =
-    let b = c .before .before .before .before .before in
-    blank-fits (b .args .list .now) (b .args .out .now) (b .args .at) (b .pre) (length (b .args .list .now) - c .before .before .loop .left) (omega arith) (c .before .before .loop .inv .2)
+    let l = c .before .before in
+    let s = entry l in
+    blank-fits (s .args .list .now) (s .args .out .now) (s .args .at) (s .pre) (count l) (omega arith) (l .loop .inv .2)
 
 sub-put-decimal : tie.Need-sub-put-decimal Inv-loop μ-loop
 sub-put-decimal c = omega arith
@@ -40,12 +54,14 @@ shared-slice-read-put-decimal : tie.Need-shared-slice-read-put-decimal Inv-loop 
 shared-slice-read-put-decimal c = omega arith
 
 cast-put-decimal : tie.Need-cast-put-decimal Inv-loop μ-loop
-cast-put-decimal c = omega (arith, c .shared-slice-known2 .given (length (c .before .before .before .before .before .before .before .before .before .before .args .list .now) - c .before .before .before .before .before .before .before .loop .left))
+cast-put-decimal c = omega (arith, c .shared-slice-known2 .given (count (turn (blank-put c))))
 
 put-decimal-requires : tie.Need-put-decimal-requires Inv-loop μ-loop
 put-decimal-requires c κs =
-    let b = c .before .before .before .before .before .before .before .before .before .before in
-    number-fits (b .args .list .now) (b .args .out .now) (b .args .at) (b .pre) (length (b .args .list .now) - c .before .before .before .before .before .before .before .loop .left) (omega arith) (c .before .before .before .before .before .before .before .loop .inv .2) (c .before .before .before .before .put-byte .ensures)
+    let b = blank-put c in
+    let l = turn b in
+    let s = entry l in
+    number-fits (s .args .list .now) (s .args .out .now) (s .args .at) (s .pre) (count l) (omega arith) (l .loop .inv .2) (b .put-byte .ensures)
 
 sub-left : tie.Need-sub-left Inv-loop μ-loop
 sub-left c = omega arith
@@ -55,15 +71,15 @@ loop-less c = omega arith
 
 loop-again : tie.Need-loop-again Inv-loop μ-loop
 loop-again c =
-    let b = c .before .before .before .before .before .before .before .before .before .before .before .before .before in
-    let l = c .before .before .before .before .before .before .before .before .before .before .loop in
     let d = c .before .before .put-decimal in
-    let i : ℕ = length (b .args .list .now) - l .left in
-    let e : i + 1 ≡ length (b .args .list .now) - (l .left - 1) = omega arith in (
+    let b = blank-put (c .before .before .before) in
+    let l = turn b in
+    let s = entry l in
+    let e : count l + 1 ≡ length (s .args .list .now) - (l .loop .left - 1) = omega arith in (
       omega arith,
-      d .kept .0 ∙ c .before .before .before .before .before .before .before .put-byte .kept .0 ∙ l .inv .1,
-      subst (λ (m : ℕ). Puts (numbers (take m (b .args .list .now))) (b .args .at) (b .args .out .now) (d .result) (d .last .0)) e
-          (number-put (b .args .list .now) (b .args .out .now) (b .args .at) (b .pre) i (omega arith) (l .inv .2) (c .before .before .before .before .before .before .before .put-byte .ensures) (d .ensures)),
+      d .kept .0 ∙ b .put-byte .kept .0 ∙ l .loop .inv .1,
+      subst (λ (m : ℕ). Puts (numbers (take m (s .args .list .now))) (s .args .at) (s .args .out .now) (d .result) (d .last .0)) e
+          (number-put (s .args .list .now) (s .args .out .now) (s .args .at) (s .pre) (count l) (omega arith) (l .loop .inv .2) (b .put-byte .ensures) (d .ensures)),
     )
 
 same-length : tie.Need-same-length Inv-loop μ-loop
@@ -71,10 +87,9 @@ same-length c = c .before .loop .inv .1
 
 returns : tie.Need-returns Inv-loop μ-loop
 returns c =
-    let b = c .before .before .before .before .args in
-    let l = c .before .loop in
-    let n : ℕ = length (b .list .now) - l .left in
-    subst (λ (w : List ℕ). Puts (numbers w) (b .at) (b .out .now) (l .place) (l .out)) (take-all n (b .list .now) (omega arith)) (l .inv .2)
+    let l = c .before in
+    let s = entry l in
+    subst (λ (w : List ℕ). Puts (numbers w) (s .args .at) (s .args .out .now) (l .loop .place) (l .loop .out)) (take-all (count l) (s .args .list .now) (omega arith)) (l .loop .inv .2)
 
 pub put-numbers-spec : {M : Type 1} → statement M
 put-numbers-spec =

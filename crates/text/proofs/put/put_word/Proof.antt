@@ -3,7 +3,7 @@ use native.Mathlib.Omega.{arith}
 use mathlib.Core.Path.{_≡_, refl}
 use Prim.Native.Nat.{_≤_, _-_}
 use lib.ListN.{length, take, length-set}
-use Rattle.text.specs.Put.{put-at}
+use Rattle.text.specs.Inner.Put.{put-at}
 use Rattle.text.proofs.Puts.{puts-none, puts-more, puts-all}
 use Rattle.text.proofs.put.put_word.Statement.{statement}
 use Rattle.text.proofs.put.put_word.Tie as tie

@@ -1,47 +1,52 @@
 -- `put_answer` meets its contract: the key, what is told, and LF.
 use borrow.Author.Needs.{needs}
-use mathlib.Core.List.{List, [], _∷_, _++_}
+use mathlib.Core.List.{List}
 use Prim.Native.Nat.{ℕ}
-use Rattle.text.specs.Line.{item}
-use Rattle.text.specs.Put.{Fits, Puts}
-use Rattle.text.specs.ReportLine.{value, answer-line}
-use Rattle.text.specs.Heard.{heard}
-use Rattle.text.proofs.Puts.{first-fits, then-fits, both-put}
+use Rattle.text.specs.Bytes.{line-end}
+use Rattle.text.specs.Inner.Told.{told}
+use Rattle.text.proofs.Puts.{key-fits, value-fits, behind-fits, item-put}
 use Rattle.text.proofs.report_line.put_answer.Statement.{statement}
 use Rattle.text.proofs.report_line.put_answer.Tie as tie
 
 -- what stands behind the key
-abbrev told : tie.Start → List ℕ
-told c = value (heard (c .args .witness .now) (c .args .answer))
+abbrev behind-key : tie.Start → List ℕ
+behind-key s = told (s .args .answer) (s .args .list .now)
 
-front-fits : (c : tie.Start) → Fits (c .args .key .now ++ told c) (c .args .at) (c .args .out .now)
-unfolding answer-line item
-front-fits c = first-fits (c .args .key .now ++ told c) (10 ∷ []) (c .args .out .now) (c .args .at) (c .pre .1)
+-- the entry, from the call that puts the key; and that call, from the one for what stands behind it
+abbrev entry : tie.After-put-word → tie.Start
+entry c = c .before .before .before .before .before
+
+abbrev key-put : tie.After-put-value → tie.After-put-word
+key-put c = c .before .before .before .before
 
 put-word-requires : tie.Need-put-word-requires
-put-word-requires c κs = let b = c .before .before .before .before in first-fits (b .args .key .now) (told b) (b .args .out .now) (b .args .at) (front-fits b)
+put-word-requires c κs =
+    let s = c .before .before .before .before in
+    key-fits (s .args .key .now) (behind-key s) line-end (s .args .out .now) (s .args .at) (s .pre .1)
 
 put-value-requires : tie.Need-put-value-requires
-put-value-requires c κs = let b = c .before .before .before .before .before .before .before .before in (b .pre .0, then-fits (b .args .key .now) (told b) (b .args .out .now) (b .args .at) (front-fits b) (c .before .before .before .put-word .ensures))
-
--- the key and what is told are put
-front-put : (c : tie.After-put-value) →
-    let b = c .before .before .before .before .before .before .before .before .before in
-    Puts (b .args .key .now ++ told b) (b .args .at) (b .args .out .now) (c .put-value .result) (c .put-value .last .0)
-front-put c =
-    let b = c .before .before .before .before .before .before .before .before .before in
-    both-put (b .args .key .now) (told b) (b .args .out .now) (b .args .at) (front-fits (c .before .before .before .before .before .before .before .before .before)) (c .before .before .before .before .put-word .ensures) (c .put-value .ensures)
+put-value-requires c κs =
+    let p = c .before .before .before in
+    let s = entry p in
+    (s .pre .0, value-fits (s .args .key .now) (behind-key s) line-end (s .args .out .now) (s .args .at) (s .pre .1) (p .put-word .ensures))
 
 put-byte-requires : tie.Need-put-byte-requires
-unfolding answer-line item
-put-byte-requires c κs = let b = c .before .before .before .before .before .before .before .before .before .before .before .before in then-fits (b .args .key .now ++ told b) (10 ∷ []) (b .args .out .now) (b .args .at) (b .pre .1) (front-put (c .before .before .before))
+put-byte-requires c κs =
+    let d = c .before .before .before in
+    let p = key-put d in
+    let s = entry p in
+    behind-fits (s .args .key .now) (behind-key s) line-end (s .args .out .now) (s .args .at) (s .pre .1) (p .put-word .ensures) (d .put-value .ensures)
 
 same-length : tie.Need-same-length
 same-length c = search needs
 
 returns : tie.Need-returns
-unfolding answer-line item
-returns c = let b = c .before .before .before .before .before .before .before .before .before .before .before .before .before .before .before in both-put (b .args .key .now ++ told b) (10 ∷ []) (b .args .out .now) (b .args .at) (b .pre .1) (front-put (c .before .before .before .before .before .before)) (c .before .before .put-byte .ensures)
+returns c =
+    let b = c .before .before in
+    let d = b .before .before .before .before in
+    let p = key-put d in
+    let s = entry p in
+    item-put (s .args .key .now) (behind-key s) line-end (s .args .out .now) (s .args .at) (s .pre .1) (p .put-word .ensures) (d .put-value .ensures) (b .put-byte .ensures)
 
 pub put-answer-spec : {M : Type 1} → statement M
 put-answer-spec =

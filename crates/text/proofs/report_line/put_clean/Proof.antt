@@ -1,37 +1,59 @@
 -- `put_clean` meets its contract: each case has its line.
 use borrow.Author.Needs.{needs}
-use mathlib.Core.Path.{ap, _∙_}
-use mathlib.Core.List.{List}
-use Prim.Native.Nat.{ℕ}
-use Rattle.verdict.specs.declared.CleanAnswer.{CleanAnswer}
-use Rattle.verdict.specs.declared.CleanAnswer.the-variants.{Unclean}
+use mathlib.Core.Path.{_≡_, ap, _∙_}
+use Rattle.verdict.specs.declared.answers.Fault.the-variants.{Aborted, Unfinal}
+use Rattle.verdict.specs.declared.answers.Cleanness.the-variants.{Unclean}
 use Rattle.text.specs.Bytes.{bytes}
 use Rattle.text.specs.ReportLine.{clean-line}
-use Rattle.text.specs.Heard.{heard-fault, heard-clean, line-of}
-use Rattle.text.proofs.Puts.{puts-nothing, known-fits, known-puts}
+use Rattle.text.proofs.Puts.{known-fits, known-puts}
 use Rattle.text.proofs.report_line.put_clean.Statement.{statement}
 use Rattle.text.proofs.report_line.put_clean.Tie as tie
 
--- the line of an answer
-abbrev told : CleanAnswer → List ℕ
-told a = line-of clean-line (heard-clean a)
+-- the entry, from where the answer is known: yes, or unclean
+abbrev yes : tie.After-enum-told → tie.Start
+yes c = c .before .before .before
+
+abbrev unclean : tie.After-clean → tie.Start
+unclean c = c .before .before .before
+
+-- .. and from where the fault is known, with the answer there
+abbrev aborted : tie.After-fault → tie.Start
+aborted c = unclean (c .before .before .before)
+
+abbrev unfinal : tie.After-fault2 → tie.Start
+unfinal c = unclean (c .before .before .before)
+
+is-aborted : (c : tie.After-fault) → aborted c .args .clean ≡ Unclean (Aborted (c .fault .given .0 .0))
+is-aborted c = c .before .before .before .clean .given .1 ∙ ap Unclean (c .fault .given .1)
+
+is-unfinal : (c : tie.After-fault2) → unfinal c .args .clean ≡ Unclean (Unfinal (c .fault2 .given .0 .0))
+is-unfinal c = c .before .before .before .clean .given .1 ∙ ap Unclean (c .fault2 .given .1)
+
+-- .. and from the calls to there
+abbrev said-yes : tie.After-put-word → tie.After-enum-told
+said-yes c = c .before .before .before
+
+abbrev said-aborted : tie.After-put-item → tie.After-fault
+said-aborted c = c .before .before .before .before
+
+abbrev said-unfinal : tie.After-put-item2 → tie.After-fault2
+said-unfinal c = c .before .before .before .before
 
 enum-told : tie.Need-enum-told
 enum-told c = search needs
-
-enum-told-2 : tie.Need-enum-told-2
-enum-told-2 c = search needs
 
 slice-aggregate-put-word : tie.Need-slice-aggregate-put-word
 slice-aggregate-put-word c = search needs
 
 put-word-requires : tie.Need-put-word-requires
-unfolding line-of clean-line heard-clean heard-fault bytes
+unfolding clean-line bytes
 put-word-requires c κs =
-    let b = c .before .before .before .before .before in known-fits told (c .before .before .enum-told2 .given .1) (b .args .out .now) (b .args .at) (b .pre)
+    let d = c .before .before in
+    let s = yes d in
+    known-fits clean-line (d .enum-told .given .1) (s .args .out .now) (s .args .at) (s .pre)
 
-enum-known-answer : tie.Need-enum-known-answer
-enum-known-answer c = search needs
+enum-known-clean : tie.Need-enum-known-clean
+enum-known-clean c = search needs
 
 enum-known-fault : tie.Need-enum-known-fault
 enum-known-fault c = search needs
@@ -40,9 +62,11 @@ slice-aggregate-put-item : tie.Need-slice-aggregate-put-item
 slice-aggregate-put-item c = search needs
 
 put-item-requires : tie.Need-put-item-requires
-unfolding line-of clean-line heard-clean heard-fault bytes
+unfolding clean-line bytes
 put-item-requires c κs =
-    let b = c .before .before .before .before .before .before .before .before .before in known-fits told (c .before .before .before .before .before .before .answer .given .1 ∙ ap Unclean (c .before .before .before .fault .given .1)) (b .args .out .now) (b .args .at) (b .pre)
+    let d = c .before .before .before in
+    let s = aborted d in
+    known-fits clean-line (is-aborted d) (s .args .out .now) (s .args .at) (s .pre)
 
 enum-known-fault-2 : tie.Need-enum-known-fault-2
 enum-known-fault-2 c = search needs
@@ -51,58 +75,59 @@ slice-aggregate-put-item-2 : tie.Need-slice-aggregate-put-item-2
 slice-aggregate-put-item-2 c = search needs
 
 put-item-requires-2 : tie.Need-put-item-requires-2
-unfolding line-of clean-line heard-clean heard-fault bytes
+unfolding clean-line bytes
 put-item-requires-2 c κs =
-    let b = c .before .before .before .before .before .before .before .before .before in known-fits told (c .before .before .before .before .before .before .answer .given .1 ∙ ap Unclean (c .before .before .before .fault2 .given .1)) (b .args .out .now) (b .args .at) (b .pre)
-
-returns : tie.Need-returns
-unfolding line-of clean-line heard-clean heard-fault bytes
-returns c =
-    let b = c .before .before .before in known-puts told (c .enum-told .given .1) (b .args .out .now) (b .args .at) (puts-nothing (b .args .out .now) (b .args .at))
+    let d = c .before .before .before in
+    let s = unfinal d in
+    known-fits clean-line (is-unfinal d) (s .args .out .now) (s .args .at) (s .pre)
 
 same-length : tie.Need-same-length
 same-length c = search needs
 
-returns-2 : tie.Need-returns-2
-unfolding line-of clean-line heard-clean heard-fault bytes
-returns-2 c =
-    let b = c .before .before .before .before .before .before .before .before in known-puts told (c .before .before .before .before .before .enum-told2 .given .1) (b .args .out .now) (b .args .at) (c .before .before .put-word .ensures)
+returns : tie.Need-returns
+unfolding clean-line bytes
+returns c =
+    let p = c .before .before in
+    let s = yes (said-yes p) in
+    known-puts clean-line (said-yes p .enum-told .given .1) (s .args .out .now) (s .args .at) (p .put-word .ensures)
 
 same-length-2 : tie.Need-same-length-2
 same-length-2 c = search needs
 
-returns-3 : tie.Need-returns-3
-unfolding line-of clean-line heard-clean heard-fault bytes
-returns-3 c =
-    let b = c .before .before .before .before .before .before .before .before .before .before .before .before in known-puts told (c .before .before .before .before .before .before .before .before .before .answer .given .1 ∙ ap Unclean (c .before .before .before .before .before .before .fault .given .1)) (b .args .out .now) (b .args .at) (c .before .before .put-item .ensures)
+returns-2 : tie.Need-returns-2
+unfolding clean-line bytes
+returns-2 c =
+    let p = c .before .before in
+    let s = aborted (said-aborted p) in
+    known-puts clean-line (is-aborted (said-aborted p)) (s .args .out .now) (s .args .at) (p .put-item .ensures)
 
 same-length-3 : tie.Need-same-length-3
 same-length-3 c = search needs
 
-returns-4 : tie.Need-returns-4
-unfolding line-of clean-line heard-clean heard-fault bytes
-returns-4 c =
-    let b = c .before .before .before .before .before .before .before .before .before .before .before .before in known-puts told (c .before .before .before .before .before .before .before .before .before .answer .given .1 ∙ ap Unclean (c .before .before .before .before .before .before .fault2 .given .1)) (b .args .out .now) (b .args .at) (c .before .before .put-item2 .ensures)
+returns-3 : tie.Need-returns-3
+unfolding clean-line bytes
+returns-3 c =
+    let p = c .before .before in
+    let s = unfinal (said-unfinal p) in
+    known-puts clean-line (is-unfinal (said-unfinal p)) (s .args .out .now) (s .args .at) (p .put-item2 .ensures)
 
 pub put-clean-spec : {M : Type 1} → statement M
 put-clean-spec =
     tie.close
     (tie.spec
     enum-told
-    enum-told-2
     slice-aggregate-put-word
     put-word-requires
-    enum-known-answer
+    enum-known-clean
     enum-known-fault
     slice-aggregate-put-item
     put-item-requires
     enum-known-fault-2
     slice-aggregate-put-item-2
     put-item-requires-2
-    returns
     same-length
-    returns-2
+    returns
     same-length-2
-    returns-3
+    returns-2
     same-length-3
-    returns-4)
+    returns-3)

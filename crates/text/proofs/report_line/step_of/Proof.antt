@@ -1,9 +1,7 @@
 -- `step_of` meets its contract.
 use borrow.Author.Needs.{needs}
 use mathlib.Core.Path.{sym, ap}
-use Rattle.verdict.specs.declared.Fault.{Fault}
-use Rattle.text.specs.ReportLine.{fault-step}
-use Rattle.text.specs.Heard.{heard-fault}
+use Rattle.verdict.specs.Clean.{fault-step}
 use Rattle.text.proofs.report_line.step_of.Statement.{statement}
 use Rattle.text.proofs.report_line.step_of.Tie as tie
 
@@ -14,12 +12,12 @@ enum-known-fault-2 : tie.Need-enum-known-fault-2
 enum-known-fault-2 c = search needs
 
 returns : tie.Need-returns
-unfolding fault-step heard-fault
-returns c = sym (ap (λ (f : Fault). fault-step (heard-fault f)) (c .before .fault .given .1))
+unfolding fault-step
+returns c = sym (ap fault-step (c .before .fault .given .1))
 
 returns-2 : tie.Need-returns-2
-unfolding fault-step heard-fault
-returns-2 c = sym (ap (λ (f : Fault). fault-step (heard-fault f)) (c .before .fault2 .given .1))
+unfolding fault-step
+returns-2 c = sym (ap fault-step (c .before .fault2 .given .1))
 
 pub step-of-spec : {M : Type 1} → statement M
 step-of-spec = tie.close (tie.spec enum-known-fault enum-known-fault-2 returns returns-2)

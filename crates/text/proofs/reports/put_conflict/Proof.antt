@@ -1,57 +1,50 @@
--- `put_conflict` meets its contract: the verdict's answer is heard, and its line is put.
+-- `put_conflict` meets its contract: what the answer holds is told behind its key.
 use borrow.Author.Needs.{needs}
-use mathlib.Core.Path.{_∙_}
 use Rattle.text.specs.Bytes.{bytes}
-use Rattle.text.specs.Report.{ConflictLine}
-use Rattle.text.proofs.Heards.{Hears, heard-fits, heard-puts, conflict-heard}
+use Rattle.text.specs.Report.{ConflictLine, conflict-line}
+use Rattle.text.proofs.Tells.{line-fits, line-puts}
 use Rattle.text.proofs.Room.{conflict-fits}
 use Rattle.text.proofs.reports.put_conflict.Statement.{statement}
 use Rattle.text.proofs.reports.put_conflict.Tie as tie
 
-hear : (c : tie.After-conflict) → Hears (ConflictLine (c .before .before .before .before .before .before .before .args .log .now)) (bytes "conflict=") (c .conflict .result) (c .conflict .last .1 .1 .0)
-hear c =
-    let b = c .before .before .before .before .before .before .before in
-    let d = c .conflict in
-    conflict-heard (b .args .log .now) (b .args .work .now) (b .args .witness .now) (d .last .1 .0) (d .last .1 .1 .0) (b .pre .0) (b .pre .1) (b .pre .2)
-    (d .kept .1 .1 .0 ∙ b .pre .2) (d .ensures)
-
-conflict-requires : tie.Need-conflict-requires
-conflict-requires c κs = search needs
+-- the entry, from where the members are lent
+abbrev entry : tie.After-list2 → tie.Start
+entry c = let d : tie.After-list = c .before .before .before in d .before .before .before
 
 slice-aggregate-put-answer : tie.Need-slice-aggregate-put-answer
 slice-aggregate-put-answer c = search needs
 
+slice-aggregate-put-answer-2 : tie.Need-slice-aggregate-put-answer-2
+slice-aggregate-put-answer-2 c = search needs
+
 put-answer-requires : tie.Need-put-answer-requires
 unfolding bytes
 put-answer-requires c κs =
-    let b = c .before .before .before .before .before .before .before .before .before .before .before .before .before .before in
-    let h = hear (c .before .before .before .before .before .before .before) in
-    (h .there, heard-fits h (conflict-fits (b .args .log .now) (b .pre .0) (h .told)) (b .args .out .now) (b .args .at) (b .pre .3))
+    let s = entry c in
+    let log = s .args .log .now in
+    let h = s .pre .1 in
+    let line = conflict-line (h .right) in
+    line-fits h (ConflictLine log) (bytes "conflict=") line (conflict-fits log (s .pre .0) line) (s .args .out .now) (s .args .at) (s .pre .2)
 
 same-length : tie.Need-same-length
 same-length c = search needs
 
-same-length-2 : tie.Need-same-length-2
-same-length-2 c = search needs
-
-same-length-3 : tie.Need-same-length-3
-same-length-3 c = search needs
-
 returns : tie.Need-returns
 unfolding bytes
 returns c =
-    let b = c .before .before .before .before .before .before .before .before .before .before .before .before .before .before .before .before .before in
-    let h = hear (c .before .before .before .before .before .before .before .before .before .before) in
-    heard-puts h (conflict-fits (b .args .log .now) (b .pre .0) (h .told)) (b .args .out .now) (b .args .at) (c .before .before .put-answer .ensures)
+    let p = c .before .before in
+    let s = entry (p .before) in
+    let log = s .args .log .now in
+    let h = s .pre .1 in
+    let line = conflict-line (h .right) in
+    line-puts h (ConflictLine log) (bytes "conflict=") line (conflict-fits log (s .pre .0) line) (s .args .out .now) (s .args .at) (p .put-answer .ensures)
 
 pub put-conflict-spec : {M : Type 1} → statement M
 put-conflict-spec =
     tie.close
     (tie.spec
-    conflict-requires
     slice-aggregate-put-answer
+    slice-aggregate-put-answer-2
     put-answer-requires
     same-length
-    same-length-2
-    same-length-3
     returns)

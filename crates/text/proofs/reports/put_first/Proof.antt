@@ -1,9 +1,8 @@
 -- `put_first` meets its contract: four lines, one after another.
 use borrow.Author.Needs.{needs}
 use native.Mathlib.Omega.{arith}
-use mathlib.Core.Path.{_≡_, sym, _∙_}
+use mathlib.Core.Path.{sym}
 use mathlib.Core.List.{List}
-use mathlib.Core.Option.{some as just}
 use Prim.Native.Nat.{ℕ}
 use Rattle.verdict.specs.Limits.{transactions}
 use Rattle.verdict.specs.Log.{steps, committed-count}
@@ -11,12 +10,10 @@ use Rattle.verdict.specs.Clean.{cleanness}
 use Rattle.verdict.specs.Snapshot.{snapshot-verdict}
 use Rattle.text.specs.Bytes.{bytes}
 use Rattle.text.specs.Line.{header}
-use Rattle.text.specs.Put.{Fits, Puts}
 use Rattle.text.specs.ReportLine.{committed-line, clean-line, snapshot-line}
 use Rattle.text.specs.Report.{first-lines}
-use Rattle.text.specs.Heard.{heard-clean, heard-snapshot, line-of}
+use Rattle.text.specs.Inner.Put.{Fits, Puts}
 use Rattle.text.proofs.Puts.{fits-first, fits-second, fits-third, fits-fourth, four-put, known-fits, known-puts}
-use Rattle.text.proofs.Heards.{clean-heard, snapshot-heard}
 use Rattle.text.proofs.Room.{first-fit}
 use Rattle.text.proofs.reports.put_first.Statement.{statement}
 use Rattle.text.proofs.reports.put_first.Tie as tie
@@ -39,85 +36,90 @@ module _ (s : tie.Start) where
   line₄ = snapshot-line (snapshot-verdict transactions log)
 
   all-fit : Fits (first-lines log) 0 (s .args .out .now)
-  all-fit = omega (arith, first-fit log (s .pre .0), s .pre .2)
+  all-fit = omega (arith, first-fit log (s .pre .0), s .pre .3)
+
+-- from the call that puts a line to the one before it, and from the first to the entry
+abbrev entry : tie.After-put-item → tie.Start
+entry c = c .before .before .before .before .before
+
+abbrev first : tie.After-committed-count → tie.After-put-item
+first c = c .before .before .before .before .before
+
+abbrev second : tie.After-put-clean → tie.After-put-item2
+second c = c .before .before .before .before
+
+abbrev third : tie.After-put-snapshot → tie.After-put-clean
+third c = c .before .before .before .before
 
 -- what each call has put
-put₁ : (c : tie.After-put-item) → Puts (line₁ (c .before .before .before .before .before .before)) 0 (c .before .before .before .before .before .before .args .out .now) (c .put-item .result) (c .put-item .last .0)
+put₁ : (c : tie.After-put-item) → Puts (line₁ (entry c)) 0 (entry c .args .out .now) (c .put-item .result) (c .put-item .last .0)
 unfolding header steps bytes
 put₁ c = c .put-item .ensures
 
-put₂ : (c : tie.After-put-item2) → Puts (line₂ (c .before .before .before .before .before .before .before .before .before .before .before .before)) (c .before .before .before .before .before .before .put-item .result) (c .before .before .before .before .before .before .put-item .last .0) (c .put-item2 .result) (c .put-item2 .last .0)
+put₂ : (c : tie.After-put-item2) → let p = first (c .before) in Puts (line₂ (entry p)) (p .put-item .result) (p .put-item .last .0) (c .put-item2 .result) (c .put-item2 .last .0)
 unfolding committed-line bytes
-put₂ c = known-puts committed-line (sym (c .before .committed .ensures)) (c .before .before .before .before .before .before .put-item .last .0) (c .before .before .before .before .before .before .put-item .result) (c .put-item2 .ensures)
+put₂ c =
+    let p = first (c .before) in
+    known-puts committed-line (sym (c .before .committed-count .ensures)) (p .put-item .last .0) (p .put-item .result) (c .put-item2 .ensures)
 
-hear-clean : (c : tie.After-clean) → heard-clean (c .clean .result) ≡ just (cleanness (log (c .before .before .before .before .before .before .before .before .before .before .before .before .before .before .before .before .before)))
-hear-clean c = let s = c .before .before .before .before .before .before .before .before .before .before .before .before .before .before .before .before .before in clean-heard (log s) (s .args .work .now) (s .pre .0) (s .pre .1) (c .clean .ensures)
-
-put₃ : (c : tie.After-put-clean) → Puts (line₃ (c .before .before .before .before .before .before .before .before .before .before .before .before .before .before .before .before .before .before .before .before)) (c .before .before .before .before .before .before .before .before .put-item2 .result) (c .before .before .before .before .before .before .before .before .put-item2 .last .0) (c .put-clean .result) (c .put-clean .last .0)
-unfolding line-of
-put₃ c = known-puts (line-of clean-line) (sym (hear-clean (c .before .before .before))) (c .before .before .before .before .before .before .before .before .put-item2 .last .0) (c .before .before .before .before .before .before .before .before .put-item2 .result) (c .put-clean .ensures)
-
-hear-snapshot : (c : tie.After-snapshot) → heard-snapshot (c .snapshot .result) ≡ just (snapshot-verdict transactions (log (c .before .before .before .before .before .before .before .before .before .before .before .before .before .before .before .before .before .before .before .before .before .before .before .before .before)))
-hear-snapshot c =
-    let s = c .before .before .before .before .before .before .before .before .before .before .before .before .before .before .before .before .before .before .before .before .before .before .before .before .before in
-    let d = c .before .before .before .before .before .before .before .before .clean in
-    snapshot-heard (log s) (d .last .1 .0) (s .pre .0) (d .kept .1 .0 ∙ s .pre .1) (c .snapshot .ensures)
+put₃ : (c : tie.After-put-clean) → let p = second c in Puts (line₃ (entry (first (p .before)))) (p .put-item2 .result) (p .put-item2 .last .0) (c .put-clean .result) (c .put-clean .last .0)
+put₃ c =
+    let p = second c in
+    known-puts clean-line (sym (entry (first (p .before)) .pre .1)) (p .put-item2 .last .0) (p .put-item2 .result) (c .put-clean .ensures)
 
 slice-aggregate-put-item : tie.Need-slice-aggregate-put-item
 slice-aggregate-put-item c = search needs
 
 put-item-requires : tie.Need-put-item-requires
 unfolding first-lines header steps bytes
-put-item-requires c κs = let s = c .before .before .before .before .before in fits-first (line₁ s) (line₂ s) (line₃ s) (line₄ s) (s .args .out .now) 0 (all-fit s)
+put-item-requires c κs = let s = c .before .before .before .before in fits-first (line₁ s) (line₂ s) (line₃ s) (line₄ s) (s .args .out .now) 0 (all-fit s)
 
 slice-aggregate-put-item-2 : tie.Need-slice-aggregate-put-item-2
 slice-aggregate-put-item-2 c = search needs
 
-committed-requires : tie.Need-committed-requires
-committed-requires c κs = search needs
+committed-count-requires : tie.Need-committed-count-requires
+committed-count-requires c κs = search needs
 
 put-item-requires-2 : tie.Need-put-item-requires-2
 unfolding first-lines committed-line bytes
 put-item-requires-2 c κs =
-    let s = c .before .before .before .before .before .before .before .before .before .before .before in
-    known-fits committed-line (sym (c .committed .ensures)) (c .before .before .before .before .before .put-item .last .0) (c .before .before .before .before .before .put-item .result)
-    (fits-second (line₁ s) (line₂ s) (line₃ s) (line₄ s) (s .args .out .now) 0 (all-fit s) (put₁ (c .before .before .before .before .before)))
-
-clean-requires : tie.Need-clean-requires
-clean-requires c κs = search needs
+    let p = first c in
+    let s = entry p in
+    known-fits committed-line (sym (c .committed-count .ensures)) (p .put-item .last .0) (p .put-item .result)
+    (fits-second (line₁ s) (line₂ s) (line₃ s) (line₄ s) (s .args .out .now) 0 (all-fit s) (put₁ p))
 
 put-clean-requires : tie.Need-put-clean-requires
-unfolding first-lines line-of
+unfolding first-lines
 put-clean-requires c κs =
-    let s = c .before .before .before .before .before .before .before .before .before .before .before .before .before .before .before .before .before .before .before in
-    let d = c .before .before .before .before .before .before .before .put-item2 in
-    known-fits (line-of clean-line) (sym (hear-clean (c .before .before))) (d .last .0) (d .result)
-    (fits-third (line₁ s) (line₂ s) (line₃ s) (line₄ s) (s .args .out .now) 0 (all-fit s) (put₁ (c .before .before .before .before .before .before .before .before .before .before .before .before .before)) (put₂ (c .before .before .before .before .before .before .before)))
-
-snapshot-requires : tie.Need-snapshot-requires
-snapshot-requires c κs = search needs
+    let q = c .before .before .before in
+    let p = first (q .before) in
+    let s = entry p in
+    known-fits clean-line (sym (s .pre .1)) (q .put-item2 .last .0) (q .put-item2 .result)
+    (fits-third (line₁ s) (line₂ s) (line₃ s) (line₄ s) (s .args .out .now) 0 (all-fit s) (put₁ p) (put₂ q))
 
 put-snapshot-requires : tie.Need-put-snapshot-requires
-unfolding first-lines line-of
+unfolding first-lines
 put-snapshot-requires c κs =
-    let s = c .before .before .before .before .before .before .before .before .before .before .before .before .before .before .before .before .before .before .before .before .before .before .before .before .before .before .before in
-    let d = c .before .before .before .before .before .before .before .put-clean in
-    known-fits (line-of snapshot-line) (sym (hear-snapshot (c .before .before))) (d .last .0) (d .result)
-    (fits-fourth (line₁ s) (line₂ s) (line₃ s) (line₄ s) (s .args .out .now) 0 (all-fit s) (put₁ (c .before .before .before .before .before .before .before .before .before .before .before .before .before .before .before .before .before .before .before .before .before)) (put₂ (c .before .before .before .before .before .before .before .before .before .before .before .before .before .before .before)) (put₃ (c .before .before .before .before .before .before .before)))
+    let d = c .before .before .before in
+    let q = second d in
+    let p = first (q .before) in
+    let s = entry p in
+    known-fits snapshot-line (sym (s .pre .2)) (d .put-clean .last .0) (d .put-clean .result)
+    (fits-fourth (line₁ s) (line₂ s) (line₃ s) (line₄ s) (s .args .out .now) 0 (all-fit s) (put₁ p) (put₂ q) (put₃ d))
 
 same-length : tie.Need-same-length
 same-length c = search needs
 
-same-length-2 : tie.Need-same-length-2
-same-length-2 c = search needs
-
 returns : tie.Need-returns
-unfolding first-lines line-of
+unfolding first-lines
 returns c =
-    let s = c .before .before .before .before .before .before .before .before .before .before .before .before .before .before .before .before .before .before .before .before .before .before .before .before .before .before .before .before .before .before in
-    let d = c .before .before .before .before .before .before .before .before .before .before .put-clean in
-    four-put (line₁ s) (line₂ s) (line₃ s) (line₄ s) (s .args .out .now) 0 (all-fit s) (put₁ (c .before .before .before .before .before .before .before .before .before .before .before .before .before .before .before .before .before .before .before .before .before .before .before .before)) (put₂ (c .before .before .before .before .before .before .before .before .before .before .before .before .before .before .before .before .before .before)) (put₃ (c .before .before .before .before .before .before .before .before .before .before))
-    (known-puts (line-of snapshot-line) (sym (hear-snapshot (c .before .before .before .before .before))) (d .last .0) (d .result) (c .before .before .put-snapshot .ensures))
+    let e = c .before .before in
+    let d = third e in
+    let q = second d in
+    let p = first (q .before) in
+    let s = entry p in
+    four-put (line₁ s) (line₂ s) (line₃ s) (line₄ s) (s .args .out .now) 0 (all-fit s) (put₁ p) (put₂ q) (put₃ d)
+    (known-puts snapshot-line (sym (s .pre .2)) (d .put-clean .last .0) (d .put-clean .result) (e .put-snapshot .ensures))
 
 pub put-first-spec : {M : Type 1} → statement M
 put-first-spec =
@@ -126,12 +128,9 @@ put-first-spec =
     slice-aggregate-put-item
     put-item-requires
     slice-aggregate-put-item-2
-    committed-requires
+    committed-count-requires
     put-item-requires-2
-    clean-requires
     put-clean-requires
-    snapshot-requires
     put-snapshot-requires
     same-length
-    same-length-2
     returns)

@@ -1,15 +1,25 @@
 -- `clean` meets its contract.
-use Rattle.verdict.proofs.WellFormed.{else-try→}
-use mathlib.Core.Path.{refl, sym, _∙_}
+use mathlib.Core.Path.{_≡_, refl, sym, _∙_}
 use borrow.Author.Needs.{needs}
-use Rattle.verdict.specs.Refusal.{work-refusal}
-use Rattle.verdict.specs.Clean.{cleanness}
-use Rattle.verdict.specs.Said.{said-refusal}
+use Rattle.verdict.specs.Refusal.{_else-try_, work-refusal, log-refusal}
 use Rattle.verdict.specs.Call.{turned-away, answered}
+use Rattle.verdict.specs.declared.answers.Checked.the-variants.{Passed}
+use Rattle.verdict.proofs.WellFormed.{else-try→}
 use Rattle.verdict.proofs.Frame.{work-left}
-use Rattle.verdict.proofs.Steps.{said-refused, said-passed}
 use Rattle.verdict.proofs.cleanness.clean.Statement.{statement}
 use Rattle.verdict.proofs.cleanness.clean.Tie as tie
+
+-- the entry, from where it is known whether the call is taken
+abbrev entry : tie.After-admit → tie.Start
+entry c = c .before .before .before
+
+-- the call is taken, from where the work area is cleared
+abbrev taken : tie.After-slice-known2 → tie.After-enum-told
+taken c = c .before .before .before .before
+
+passed : (c : tie.After-enum-told) → let a = entry (c .before .before) .args in (work-refusal (a .work .now) else-try log-refusal (a .log .now)) ≡ Passed
+unfolding work-refusal
+passed c = sym (c .before .before .admit .ensures) ∙ c .enum-told .given .1
 
 admit-requires : tie.Need-admit-requires
 admit-requires c κs = search needs
@@ -24,21 +34,19 @@ clear-requires : tie.Need-clear-requires
 clear-requires c κs = search needs
 
 judge-clean-requires : tie.Need-judge-clean-requires
-unfolding said-refusal work-refusal
-judge-clean-requires c κs = else-try→ (said-passed _ (sym (c .before .before .before .before .before .before .admit .ensures) ∙ c .before .before .before .before .enum-told .given .1)) .1
+judge-clean-requires c κs = else-try→ (passed (taken c)) .1
 
 returns : tie.Need-returns
-unfolding said-refusal work-refusal
-returns c = turned-away _ _ (sym (said-refused _ (sym (c .before .before .before .admit .ensures) ∙ c .before .admitted .given .1))) refl refl
+unfolding work-refusal
+returns c = turned-away _ _ (sym (c .before .admitted .given .1) ∙ c .before .before .before .admit .ensures) refl refl
 
 same-length : tie.Need-same-length
 same-length c = search needs
 
 returns-2 : tie.Need-returns-2
-unfolding said-refusal work-refusal
 returns-2 c =
-    let e = said-passed _ (sym (c .before .before .before .before .before .before .before .admit .ensures) ∙ c .before .before .before .before .before .enum-told .given .1) in
-    answered (cleanness (c .before .before .before .before .before .before .before .before .before .before .args .log .now)) (sym e) refl (c .judge-clean .ensures) (work-left _ (c .before .before .before .before .before .before .before .before .before .before .args .work .now) _ (else-try→ e .0) (c .before .before .before .clear .ensures))
+    let here = taken (c .before) in
+    answered (c .judge-clean .result) (sym (passed here)) (c .judge-clean .ensures) refl (work-left _ (entry (here .before .before) .args .work .now) _ (else-try→ (passed here) .0) (c .before .before .before .clear .ensures))
 
 pub clean-spec : {M : Type 1} → statement M
 clean-spec =

@@ -1,162 +1,131 @@
 -- `is_faulty` meets its contract.
 use mathlib.Core.Path.{_≡_, sym, _∙_}
+use mathlib.Core.Bool.{Bool, true}
 use mathlib.Core.Logic.{inl}
-use mathlib.Core.List.{List}
-use Prim.Native.Nat.{ℕ, _<_}
+use Prim.Native.Nat.{_+_, _≤_, _<_}
 use native.Mathlib.Omega.{arith}
-use Rattle.verdict.specs.Log.{steps, kind, tx, obj, src}
+use borrow.Author.Needs.{needs}
 use borrow.Author.Tests.{not-true, not-false}
-use Rattle.verdict.proofs.Judged.{other-kind, own-source, reader-fails, judged-read}
+use Rattle.words.specs.Tests.{_below_}
+use Rattle.words.proofs.Truth.{→below, →not-below}
+use Rattle.verdict.specs.Limits.{transactions, objects}
+use Rattle.verdict.specs.Log.{steps, kind, tx, obj, src, committed}
+use Rattle.verdict.specs.Clean.{judged-other, faulty-read}
+use Rattle.verdict.proofs.JudgedReads.{other-kind, own-source, reader-fails, judged-read}
 use Rattle.verdict.proofs.Faults.{not-faulty, source-zero, source-open, source-later}
 use Rattle.verdict.proofs.WellFormed.{well-formed}
-use Rattle.verdict.proofs.LastWrites.{writes-again, writes-no-more}
-use borrow.Author.Needs.{needs}
+use Rattle.verdict.proofs.Matrices.{told-committed}
+use Rattle.verdict.proofs.LastWrites.{by-last}
 use Rattle.verdict.proofs.cleanness.is_faulty.Statement.{statement}
 use Rattle.verdict.proofs.cleanness.is_faulty.Tie as tie
 
-mul-if1 : tie.Need-mul-if1
-mul-if1 c = search needs
+-- the step and the entry, from where it is a read; and that place, from where its source is another than 0 and the reader
+abbrev read : tie.Else1 → tie.After-step-at
+read c = c .before .before
 
-mul-if1-2 : tie.Need-mul-if1-2
-mul-if1-2 c = search needs
+abbrev entry : tie.Else1 → tie.Start
+entry c = read c .before .before
 
-shared-slice-read-if1 : tie.Need-shared-slice-read-if1
-shared-slice-read-if1 c = search needs
+abbrev other : tie.Else3 → tie.Else1
+other c = c .before .before
+
+-- the numbers of the read
+module _ (c : tie.Else1) where
+  is-read : kind (entry c .args .log .now) (entry c .args .i) ≡ 2
+  is-read = sym (read c .step-at .ensures .kind-is) ∙ c .if1 .left
+
+  in-log : entry c .args .i < steps (entry c .args .log .now)
+  unfolding steps
+  in-log = omega arith
+
+  source-in : src (entry c .args .log .now) (entry c .args .i) ≤ transactions
+  source-in = well-formed _ (entry c .pre .0) .sources _ in-log is-read
+
+  object-in : obj (entry c .args .log .now) (entry c .args .i) < objects
+  object-in = well-formed _ (entry c .pre .0) .object _ in-log (inl is-read)
+
+not-zero : (c : tie.Else3) → src (entry (other c) .args .log .now) (entry (other c) .args .i) ≡ 0 → ⊥
+not-zero c e = c .if3 .left (read (other c) .step-at .ensures .src-is ∙ e)
+
+-- who committed, by the marks
+reader : (c : tie.After-takes-part) {v : Bool} → c .takes-part .result ≡ v → let a = entry (other (c .before)) .args in committed (a .log .now) (tx (a .log .now) (a .i)) ≡ v
+reader c q = sym (told-committed (entry (other (c .before)) .pre .2) (c .takes-part .ensures) (read (other (c .before)) .step-at .ensures .tx-is)) ∙ q
+
+source : (c : tie.After-takes-part2) {v : Bool} → c .takes-part2 .result ≡ v → let a = entry (other (c .before .before .before)) .args in committed (a .log .now) (src (a .log .now) (a .i)) ≡ v
+source c q = let here = other (c .before .before .before) in sym (told-committed (entry here .pre .2) (c .takes-part2 .ensures) (read here .step-at .ensures .src-is)) ∙ q
+
+-- a judged read from another
+is-judged : (c : tie.Else4) → let a = entry (other (c .before .before)) .args in judged-other (a .log .now) (a .i) ≡ true
+is-judged c =
+    let another = c .before .before .before in
+    let step = read (another .before) .step-at .ensures in
+    judged-read _ _ (is-read (another .before)) (λ e. another .if2 .left (step .src-is ∙ e ∙ sym (step .tx-is))) (reader (c .before) (not-false _ (c .if4 .left)))
+
+-- the read is faulty exactly when the source writes the object later
+later : (c : tie.After-last-write) → let a = entry (other (c .before .before .before .before .before)) .args in faulty-read (a .log .now) (a .i) ≡ (a .i + 1 below c .last-write .result)
+later c =
+    let from = c .before .before in
+    let judged = from .before in
+    let here = other (judged .before .before) in
+    let step = read here .step-at .ensures in
+    source-later _ _ (is-judged judged) (not-zero (judged .before .before)) (source from (not-false _ (c .before .if5 .left))) ∙ by-last _ (entry here .pre .3) _ (source-in here) (object-in here) (step .src-is) (step .obj-is) (c .last-write .ensures)
+
+step-at-requires : tie.Need-step-at-requires
+step-at-requires c κs = search needs
 
 returns : tie.Need-returns
-unfolding steps kind tx obj src
-returns c = sym (not-faulty _ _ (other-kind _ _ (c .if1 .taken)))
-
-mul-t : tie.Need-mul-t
-mul-t c = search needs
-
-add-t : tie.Need-add-t
-add-t c = search needs
-
-mul-t-2 : tie.Need-mul-t-2
-mul-t-2 c = search needs
-
-shared-slice-read-t : tie.Need-shared-slice-read-t
-shared-slice-read-t c = search needs
-
-mul-s : tie.Need-mul-s
-mul-s c = search needs
-
-add-s : tie.Need-add-s
-add-s c = search needs
-
-mul-s-2 : tie.Need-mul-s-2
-mul-s-2 c = search needs
-
-shared-slice-read-s : tie.Need-shared-slice-read-s
-shared-slice-read-s c = search needs
+returns c = sym (not-faulty _ _ (other-kind _ _ (λ e. c .if1 .taken (c .before .before .step-at .ensures .kind-is ∙ e))))
 
 returns-2 : tie.Need-returns-2
-unfolding steps kind tx obj src
-returns-2 c = sym (not-faulty _ _ (own-source _ _ (c .if2 .taken)))
+returns-2 c =
+    let step = read (c .before) .step-at .ensures in
+    sym (not-faulty _ _ (own-source _ _ (sym (step .src-is) ∙ c .if2 .taken ∙ step .tx-is)))
 
 returns-3 : tie.Need-returns-3
-unfolding steps kind tx obj src
-returns-3 c = sym (source-zero _ _ (c .if3 .taken))
+returns-3 c = sym (source-zero _ _ (sym (read (c .before .before) .step-at .ensures .src-is) ∙ c .if3 .taken))
 
 takes-part-requires : tie.Need-takes-part-requires
-unfolding steps kind tx obj src
 takes-part-requires c κs =
-    let a = c .before .before .before .before .before .before .before in
-    let log : List ℕ = a .args .log .now in
-    let i : ℕ = a .args .i in
-    let w = well-formed log (a .pre .0) in
-    let h : i < steps log = omega arith in
-    w .range i h
+    let here = other c in
+    let r = well-formed _ (entry here .pre .0) .range _ (in-log here) in
+    let e = read here .step-at .ensures .tx-is in
+    (omega (arith, r .0, e), omega (arith, r .1, e))
 
 returns-4 : tie.Need-returns-4
-unfolding steps kind tx obj src
-returns-4 c =
-    let a = c .before .before .before .before .before .before .before .before .before in
-    let log : List ℕ = a .args .log .now in
-    let i : ℕ = a .args .i in
-    sym (not-faulty log i (reader-fails log i (sym (a .pre .2 .mark _) ∙ sym (c .before .takes-part .ensures) ∙ not-true _ (c .if4 .taken))))
+returns-4 c = sym (not-faulty _ _ (reader-fails _ _ (reader (c .before) (not-true _ (c .if4 .taken)))))
 
 takes-part-requires-2 : tie.Need-takes-part-requires-2
-unfolding steps kind tx obj src
 takes-part-requires-2 c κs =
-    let a = c .before .before .before .before .before .before .before .before .before in
-    let log : List ℕ = a .args .log .now in
-    let i : ℕ = a .args .i in
-    let w = well-formed log (a .pre .0) in
-    let h : i < steps log = omega arith in
-    let n : src log i ≡ 0 → ⊥ = c .before .before .if3 .left in
-    (omega arith, w .sources i h (c .before .before .before .before .before .before .if1 .left))
+    let another = c .before .before in
+    let e = read (other another) .step-at .ensures .src-is in
+    (omega (arith, another .if3 .left), omega (arith, source-in (other another), e))
 
 returns-5 : tie.Need-returns-5
-unfolding steps kind tx obj src
 returns-5 c =
-    let a = c .before .before .before .before .before .before .before .before .before .before .before in
-    let log : List ℕ = a .args .log .now in
-    let i : ℕ = a .args .i in
-    sym (source-open log i (judged-read log i (c .before .before .before .before .before .before .before .before .if1 .left) (c .before .before .before .before .before .if2 .left) (sym (a .pre .2 .mark _) ∙ sym (c .before .before .before .takes-part .ensures) ∙ not-false _ (c .before .before .if4 .left))) (c .before .before .before .before .if3 .left) (sym (a .pre .2 .mark _) ∙ sym (c .before .takes-part2 .ensures) ∙ not-true _ (c .if5 .taken)))
+    let judged = c .before .before in
+    sym (source-open _ _ (is-judged judged) (not-zero (judged .before .before)) (source (c .before) (not-true _ (c .if5 .taken))))
 
 add-if6 : tie.Need-add-if6
-add-if6 c = search needs
-
-mul-last-write : tie.Need-mul-last-write
-mul-last-write c = search needs
-
-add-last-write : tie.Need-add-last-write
-add-last-write c = search needs
-
-mul-last-write-2 : tie.Need-mul-last-write-2
-mul-last-write-2 c = search needs
-
-shared-slice-read-last-write : tie.Need-shared-slice-read-last-write
-shared-slice-read-last-write c = search needs
+add-if6 c = omega arith
 
 last-write-requires : tie.Need-last-write-requires
-unfolding steps kind tx obj src
 last-write-requires c κs =
-    let a = c .before .before .before .before .before .before .before .before .before .before .before .before in
-    let log : List ℕ = a .args .log .now in
-    let i : ℕ = a .args .i in
-    let w = well-formed log (a .pre .0) in
-    let h : i < steps log = omega arith in
-    (w .sources i h (c .before .before .before .before .before .before .before .before .before .if1 .left), w .object i h (inl (c .before .before .before .before .before .before .before .before .before .if1 .left)))
+    let here = other (c .before .before .before .before) in
+    let step = read here .step-at .ensures in
+    (omega (arith, source-in here, step .src-is), omega (arith, object-in here, step .obj-is))
 
 returns-6 : tie.Need-returns-6
-unfolding steps kind tx obj src
-returns-6 c =
-    let a = c .before .before .before .before .before .before .before .before .before .before .before .before .before .before in
-    let log : List ℕ = a .args .log .now in
-    let i : ℕ = a .args .i in
-    let w = well-formed log (a .pre .0) in
-    let h : i < steps log = omega arith in
-    sym (source-later log i (judged-read log i (c .before .before .before .before .before .before .before .before .before .before .before .if1 .left) (c .before .before .before .before .before .before .before .before .if2 .left) (sym (a .pre .2 .mark _) ∙ sym (c .before .before .before .before .before .before .takes-part .ensures) ∙ not-false _ (c .before .before .before .before .before .if4 .left))) (c .before .before .before .before .before .before .before .if3 .left) (sym (a .pre .2 .mark _) ∙ sym (c .before .before .before .before .takes-part2 .ensures) ∙ not-false _ (c .before .before .before .if5 .left)) ∙ writes-again log (a .pre .3) i (src log i) (obj log i) (w .sources i h (c .before .before .before .before .before .before .before .before .before .before .before .if1 .left)) (w .object i h (inl (c .before .before .before .before .before .before .before .before .before .before .before .if1 .left))) (c .before .last-write .ensures) (c .if6 .taken))
+returns-6 c = sym (later (c .before) ∙ →below (c .if6 .taken))
 
 returns-7 : tie.Need-returns-7
-unfolding steps kind tx obj src
-returns-7 c =
-    let a = c .before .before .before .before .before .before .before .before .before .before .before .before .before .before in
-    let log : List ℕ = a .args .log .now in
-    let i : ℕ = a .args .i in
-    let w = well-formed log (a .pre .0) in
-    let h : i < steps log = omega arith in
-    sym (source-later log i (judged-read log i (c .before .before .before .before .before .before .before .before .before .before .before .if1 .left) (c .before .before .before .before .before .before .before .before .if2 .left) (sym (a .pre .2 .mark _) ∙ sym (c .before .before .before .before .before .before .takes-part .ensures) ∙ not-false _ (c .before .before .before .before .before .if4 .left))) (c .before .before .before .before .before .before .before .if3 .left) (sym (a .pre .2 .mark _) ∙ sym (c .before .before .before .before .takes-part2 .ensures) ∙ not-false _ (c .before .before .before .if5 .left)) ∙ writes-no-more log (a .pre .3) i (src log i) (obj log i) (w .sources i h (c .before .before .before .before .before .before .before .before .before .before .before .if1 .left)) (w .object i h (inl (c .before .before .before .before .before .before .before .before .before .before .before .if1 .left))) (c .before .last-write .ensures) (c .if6 .left))
+returns-7 c = sym (later (c .before) ∙ →not-below (c .if6 .left))
 
 pub is-faulty-spec : {M : Type 1} → statement M
 is-faulty-spec =
     tie.close
     (tie.spec
-    mul-if1
-    mul-if1-2
-    shared-slice-read-if1
+    step-at-requires
     returns
-    mul-t
-    add-t
-    mul-t-2
-    shared-slice-read-t
-    mul-s
-    add-s
-    mul-s-2
-    shared-slice-read-s
     returns-2
     returns-3
     takes-part-requires
@@ -164,10 +133,6 @@ is-faulty-spec =
     takes-part-requires-2
     returns-5
     add-if6
-    mul-last-write
-    add-last-write
-    mul-last-write-2
-    shared-slice-read-last-write
     last-write-requires
     returns-6
     returns-7)

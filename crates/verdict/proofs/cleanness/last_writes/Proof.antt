@@ -1,64 +1,61 @@
 -- `last_writes` meets its contract.
-use mathlib.Core.Path.{_≡_, refl, _∙_}
+use mathlib.Core.Path.{_≡_, refl, sym, _∙_}
 use mathlib.Core.Logic.{inr, ⊎-elim}
-use mathlib.Core.List.{List}
-use Prim.Native.Nat.{ℕ, _+_, _-_, _*_, _/_, _≤_, _<_}
+use Prim.Native.Nat.{_+_, _-_, _*_, _/_, _≤_, _<_}
 use native.Mathlib.Omega.{arith}
 use borrow.Author.Needs.{needs}
 use lib.ListN.{length, length-set}
-use Rattle.verdict.specs.Limits.{transactions, objects, most-steps}
+use Rattle.verdict.specs.Limits.{transactions, objects}
 use Rattle.verdict.specs.Log.{steps, kind, tx, obj}
-use Rattle.verdict.specs.Refusal.{taken, log-refusal}
-use Rattle.verdict.specs.Walk.{LastWrites}
+use Rattle.verdict.specs.Refusal.{log-refusal}
+use Rattle.verdict.specs.Inner.LastWrites.{LastWrites}
+use Rattle.verdict.specs.declared.answers.Checked.the-variants.{Passed}
 use Rattle.verdict.proofs.WellFormed.{steps-within, well-formed}
 use Rattle.verdict.proofs.LastWrites.{last-none, last-skip, last-more}
 use Rattle.verdict.proofs.cleanness.last_writes.Statement.{statement}
 use Rattle.verdict.proofs.cleanness.last_writes.Tie as tie
 
 abbrev Inv-loop : tie.InvT-loop
-Inv-loop log n table₀ i₀ table i = (n ≡ length log / 4) × (i ≤ n) × (log-refusal log ≡ taken) × (length table ≡ 8256) × LastWrites log i table
+Inv-loop log n table₀ i₀ table i = (n ≡ length log / 4) × (i ≤ n) × (log-refusal log ≡ Passed) × (length table ≡ 8256) × LastWrites log i table
 
 abbrev μ-loop : tie.MeasureT-loop
 μ-loop log n table₀ i₀ table i = n - i
 
+-- the head of the loop and the entry, from where a step is read
+abbrev head : tie.After-struct-known Inv-loop μ-loop → tie.At-loop Inv-loop μ-loop
+head c = c .before .before .before
+
+abbrev entry : tie.After-struct-known Inv-loop μ-loop → tie.Start Inv-loop μ-loop
+entry c = head c .before .before
+
+-- a write, whose numbers are within the limits
+module _ (c : tie.After-struct-known Inv-loop μ-loop) (k : c .before .step-at .result .kind ≡ 3) where
+  is-write : kind (entry c .args .log .now) (head c .loop .i) ≡ 3
+  is-write = sym (c .before .step-at .ensures .kind-is) ∙ k
+
+  tx-in : tx (entry c .args .log .now) (head c .loop .i) ≤ transactions
+  unfolding steps
+  tx-in = well-formed _ (head c .loop .inv .2) .range (head c .loop .i) (omega arith) .1
+
+  object-in : obj (entry c .args .log .now) (head c .loop .i) < objects
+  unfolding steps
+  object-in = well-formed _ (head c .loop .inv .2) .object (head c .loop .i) (omega arith) (inr is-write)
+
+-- its place in the table
+place-in : (c : tie.After-index2 Inv-loop μ-loop) → c .before .index .result * 64 + c .index2 .result < 8256
+place-in c =
+    let one = c .before .before in
+    let step = one .before .before .step-at .ensures in
+    omega (arith, c .before .index .ensures, c .index2 .ensures, step .tx-is, step .obj-is, tx-in (one .before) (one .if1 .taken), object-in (one .before) (one .if1 .taken))
+
 loop-holds : tie.Need-loop-holds Inv-loop μ-loop
 loop-holds c = (refl, omega arith, c .before .pre, search needs, last-none _ 8256 refl)
 
-mul-if1 : tie.Need-mul-if1 Inv-loop μ-loop
-mul-if1 c = omega arith
-
-mul-if1-2 : tie.Need-mul-if1-2 Inv-loop μ-loop
-mul-if1-2 c = omega arith
-
-shared-slice-read-if1 : tie.Need-shared-slice-read-if1 Inv-loop μ-loop
-shared-slice-read-if1 c = omega arith
-
-mul-index : tie.Need-mul-index Inv-loop μ-loop
-mul-index c = omega arith
-
-add-index : tie.Need-add-index Inv-loop μ-loop
-add-index c = omega arith
-
-mul-index-2 : tie.Need-mul-index-2 Inv-loop μ-loop
-mul-index-2 c = omega arith
-
-shared-slice-read-index : tie.Need-shared-slice-read-index Inv-loop μ-loop
-shared-slice-read-index c = omega arith
+step-at-requires : tie.Need-step-at-requires Inv-loop μ-loop
+step-at-requires c κs = omega arith
 
 index-requires : tie.Need-index-requires Inv-loop μ-loop
 index-requires c κs = search needs
-
-mul-index-3 : tie.Need-mul-index-3 Inv-loop μ-loop
-mul-index-3 c = omega arith
-
-add-index-2 : tie.Need-add-index-2 Inv-loop μ-loop
-add-index-2 c = omega arith
-
-mul-index-4 : tie.Need-mul-index-4 Inv-loop μ-loop
-mul-index-4 c = omega arith
-
-shared-slice-read-index-2 : tie.Need-shared-slice-read-index-2 Inv-loop μ-loop
-shared-slice-read-index-2 c = omega arith
 
 index-requires-2 : tie.Need-index-requires-2 Inv-loop μ-loop
 index-requires-2 c κs = search needs
@@ -68,51 +65,19 @@ add-table c = omega arith
 
 cast-table : tie.Need-cast-table Inv-loop μ-loop
 unfolding steps
-cast-table c =
-    let at = c .before .before .before .before .before .before .before in
-    let log : List ℕ = at .before .before .args .log .now in
-    let z : steps log ≤ most-steps = steps-within log (at .loop .inv .2) in
-    omega arith
+cast-table c = let here = c .before .before .before in omega (arith, steps-within _ (head here .loop .inv .2))
 
 mul-table : tie.Need-mul-table Inv-loop μ-loop
-unfolding steps kind tx obj
-mul-table c =
-    let at = c .before .before .before .before .before .before .before in
-    let log : List ℕ = at .before .before .args .log .now in
-    let w = well-formed log (at .loop .inv .2) in
-    let y : tx log (at .loop .i) ≤ transactions = w .range (at .loop .i) (omega arith) .1 in
-    let z : obj log (at .loop .i) < objects = w .object (at .loop .i) (omega arith) (inr (c .before .before .before .before .if1 .taken)) in
-    omega (arith, c .before .before .index .ensures, c .index2 .ensures)
+mul-table c = omega (arith, place-in c)
 
 add-table-2 : tie.Need-add-table-2 Inv-loop μ-loop
-unfolding steps kind tx obj
-add-table-2 c =
-    let at = c .before .before .before .before .before .before .before in
-    let log : List ℕ = at .before .before .args .log .now in
-    let w = well-formed log (at .loop .inv .2) in
-    let y : tx log (at .loop .i) ≤ transactions = w .range (at .loop .i) (omega arith) .1 in
-    let z : obj log (at .loop .i) < objects = w .object (at .loop .i) (omega arith) (inr (c .before .before .before .before .if1 .taken)) in
-    omega (arith, c .before .before .index .ensures, c .index2 .ensures)
+add-table-2 c = omega (arith, place-in c)
 
 mul-table-2 : tie.Need-mul-table-2 Inv-loop μ-loop
-unfolding steps kind tx obj
-mul-table-2 c =
-    let at = c .before .before .before .before .before .before .before in
-    let log : List ℕ = at .before .before .args .log .now in
-    let w = well-formed log (at .loop .inv .2) in
-    let y : tx log (at .loop .i) ≤ transactions = w .range (at .loop .i) (omega arith) .1 in
-    let z : obj log (at .loop .i) < objects = w .object (at .loop .i) (omega arith) (inr (c .before .before .before .before .if1 .taken)) in
-    omega (arith, c .before .before .index .ensures, c .index2 .ensures)
+mul-table-2 c = omega (arith, place-in c)
 
 array-write-table : tie.Need-array-write-table Inv-loop μ-loop
-unfolding steps kind tx obj
-array-write-table c =
-    let at = c .before .before .before .before .before .before .before in
-    let log : List ℕ = at .before .before .args .log .now in
-    let w = well-formed log (at .loop .inv .2) in
-    let y : tx log (at .loop .i) ≤ transactions = w .range (at .loop .i) (omega arith) .1 in
-    let z : obj log (at .loop .i) < objects = w .object (at .loop .i) (omega arith) (inr (c .before .before .before .before .if1 .taken)) in
-    omega (arith, c .before .before .index .ensures, c .index2 .ensures)
+array-write-table c = place-in c
 
 add-i : tie.Need-add-i Inv-loop μ-loop
 add-i c = omega arith
@@ -121,18 +86,16 @@ loop-less : tie.Need-loop-less Inv-loop μ-loop
 loop-less c = omega arith
 
 loop-again : tie.Need-loop-again Inv-loop μ-loop
-unfolding steps kind tx obj
 loop-again c =
-    let at = c .before .before .before in
-    let log : List ℕ = at .before .before .args .log .now in
-    let i : ℕ = at .loop .i in
-    let l : LastWrites log i (at .loop .table) = at .loop .inv .4 in
-    let well = well-formed log (at .loop .inv .2) in (
+    let here = c .before in
+    let loop = head here .loop in
+    let step = here .before .step-at .ensures in (
       refl,
       omega arith,
-      at .loop .inv .2,
-      ⊎-elim (λ w. rw (w .5) (length-set (at .loop .table) (w .2 .result * 64 + w .4 .result) (i + 1) ∙ at .loop .inv .3)) (λ w. rw (w .1) (at .loop .inv .3)) (c .if1 .came),
-      ⊎-elim (λ w. rw (w .5, w .2 .ensures, w .4 .ensures) (last-more log i l (w .0 .taken) (well .range i (omega arith) .1) (well .object i (omega arith) (inr (w .0 .taken))) (at .loop .inv .3))) (λ w. rw (w .1) (last-skip log i l (w .0 .left))) (c .if1 .came),
+      loop .inv .2,
+      ⊎-elim (λ w. rw (w .3) (length-set (loop .table) (w .1 .result * 64 + w .2 .result) (loop .i + 1) ∙ loop .inv .3)) (λ w. rw (w .1) (loop .inv .3)) (c .if1 .came),
+      ⊎-elim (λ w. rw (w .3, w .1 .ensures ∙ step .tx-is, w .2 .ensures ∙ step .obj-is) (last-more _ (loop .i) (loop .inv .4) (is-write here (w .0 .taken)) (tx-in here (w .0 .taken)) (object-in here (w .0 .taken)) (loop .inv .3)))
+          (λ w. rw (w .1) (last-skip _ (loop .i) (loop .inv .4) (λ e. w .0 .left (step .kind-is ∙ e)))) (c .if1 .came),
     )
 
 returns : tie.Need-returns Inv-loop μ-loop
@@ -146,18 +109,8 @@ last-writes-spec =
     Inv-loop
     μ-loop
     loop-holds
-    mul-if1
-    mul-if1-2
-    shared-slice-read-if1
-    mul-index
-    add-index
-    mul-index-2
-    shared-slice-read-index
+    step-at-requires
     index-requires
-    mul-index-3
-    add-index-2
-    mul-index-4
-    shared-slice-read-index-2
     index-requires-2
     add-table
     cast-table

@@ -1,11 +1,18 @@
 -- `conflict` meets its contract.
-use Rattle.verdict.specs.Limits.{transactions}
-use Rattle.verdict.specs.Refusal.{work-refusal, witness-refusal, log-refusal}
-use Rattle.verdict.specs.Conflict.{Conflict}
-use Rattle.verdict.proofs.Frame.{admitted, call-answered, call-refused}
 use borrow.Author.Needs.{needs}
+use Rattle.verdict.specs.Refusal.{log-refusal, work-refusal, witness-refusal}
+use Rattle.verdict.proofs.Frame.{Admitted, admitted, call-refused, call-left}
 use Rattle.verdict.proofs.conflict_graph.conflict.Statement.{statement}
 use Rattle.verdict.proofs.conflict_graph.conflict.Tie as tie
+
+-- the entry, from where the buffers and the log were looked at
+abbrev entry : tie.After-admit-witness → tie.Start
+entry c = c .before .before .before .before
+
+-- nothing turns the call away
+passed : (c : tie.After-enum-told) → let start = entry (c .before .before) in Admitted (log-refusal (start .args .log .now)) (start .args .work .now) (start .args .witness .now)
+unfolding work-refusal witness-refusal
+passed c = admitted _ _ _ (c .before .before .admit-witness .ensures) (c .enum-told .given .1)
 
 admit-witness-requires : tie.Need-admit-witness-requires
 admit-witness-requires c κs = search needs
@@ -17,17 +24,14 @@ enum-told : tie.Need-enum-told
 enum-told c = search needs
 
 judge-conflict-requires : tie.Need-judge-conflict-requires
-unfolding work-refusal witness-refusal
-judge-conflict-requires c κs = let here = c .before .before .before .before .before .before .before .before in
-    let a = here .args in
-    let t = admitted (log-refusal (a .log .now)) (a .work .now) (a .witness .now) (c .before .before .before .before .admit-witness .ensures) (c .before .before .enum-told .given .1) in
-    (t .well, t .work-size, t .witness-size)
+judge-conflict-requires c κs = passed (c .before .before) .well
+
+leave-requires : tie.Need-leave-requires
+leave-requires c κs = passed (c .before .before .before) .witness-size
 
 returns : tie.Need-returns
 unfolding work-refusal witness-refusal
-returns c = let here = c .before .before .before .before .before .before .before in
-    let a = here .args in
-    call-refused (log-refusal (a .log .now)) (a .work .now) (a .witness .now) (c .before .before .before .admit-witness .ensures) (Conflict transactions (a .log .now)) (c .before .admitted .given .1)
+returns c = call-refused _ _ _ (c .before .before .before .admit-witness .ensures) _ (c .before .admitted .given .1)
 
 same-length : tie.Need-same-length
 same-length c = search needs
@@ -36,10 +40,9 @@ same-length-2 : tie.Need-same-length-2
 same-length-2 c = search needs
 
 returns-2 : tie.Need-returns-2
-unfolding work-refusal witness-refusal
-returns-2 c = let here = c .before .before .before .before .before .before .before .before .before .before .before .before .before in
-    let a = here .args in
-    call-answered (log-refusal (a .log .now)) (a .work .now) (a .witness .now) (c .before .before .before .before .before .before .before .before .before .admit-witness .ensures) (Conflict transactions (a .log .now)) (c .before .before .before .before .before .before .before .enum-told .given .1) (c .before .before .before .before .judge-conflict .ensures)
+returns-2 c =
+    let found = c .before .before .before .before .before in
+    call-left (passed (found .before .before .before)) (found .judge-conflict .ensures) (c .before .before .before .before .leave .ensures)
 
 pub conflict-spec : {M : Type 1} → statement M
 conflict-spec =
@@ -49,6 +52,7 @@ conflict-spec =
     enum-known-admitted
     enum-told
     judge-conflict-requires
+    leave-requires
     returns
     same-length
     same-length-2

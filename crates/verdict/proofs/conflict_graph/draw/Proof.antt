@@ -5,7 +5,8 @@ use native.Mathlib.Numerals.{add-one}
 use lib.ListN.{length}
 use Rattle.words.specs.Tests.{some}
 use Rattle.verdict.specs.Log.{steps}
-use Rattle.verdict.specs.Walk.{no-edge, conflicts-until, Matrix}
+use Rattle.verdict.specs.Inner.Edges.{no-edge, Drawn}
+use Rattle.verdict.specs.Inner.ConflictEdges.{conflicts-until}
 use Rattle.verdict.proofs.WellFormed.{well-formed}
 use Rattle.verdict.proofs.Matrices.{same-edges}
 use Rattle.verdict.proofs.ConflictGraph.{all-conflicts}
@@ -14,17 +15,21 @@ use Rattle.verdict.proofs.conflict_graph.draw.Statement.{statement}
 use Rattle.verdict.proofs.conflict_graph.draw.Tie as tie
 
 abbrev Inv-loop : tie.InvT-loop
-Inv-loop log work₀ part n j₀ work j = (n ≡ length log / 4) × (j ≤ n) × Matrix (conflicts-until log j) work
+Inv-loop log matrix₀ part n j₀ matrix j = (n ≡ length log / 4) × (j ≤ n) × Drawn (conflicts-until log j) matrix
 
 abbrev μ-loop : tie.MeasureT-loop
-μ-loop log work₀ part n j₀ work j = n - j
+μ-loop log matrix₀ part n j₀ matrix j = n - j
+
+-- the entry, from the top of the loop
+abbrev entry : tie.At-loop Inv-loop μ-loop → tie.Start Inv-loop μ-loop
+entry c = c .before .before .before
 
 loop-holds : tie.Need-loop-holds Inv-loop μ-loop
 unfolding conflicts-until some no-edge
 loop-holds c = (refl, omega arith, same-edges (c .before .before .pre .2) (λ a b. refl))
 
 mark-step-requires : tie.Need-mark-step-requires Inv-loop μ-loop
-mark-step-requires c κs = let here = c .before .before .before .before .before in (here .pre .0, omega arith, here .pre .1, c .before .before .loop .inv .2)
+mark-step-requires c κs = let top = c .before .before in (entry top .pre .0, omega arith, entry top .pre .1, top .loop .inv .2)
 
 add-j : tie.Need-add-j Inv-loop μ-loop
 add-j c = omega arith
@@ -33,16 +38,16 @@ loop-less : tie.Need-loop-less Inv-loop μ-loop
 loop-less c = omega arith
 
 loop-again : tie.Need-loop-again Inv-loop μ-loop
-loop-again c = (refl, omega arith, rw (add-one (c .before .before .before .before .before .loop .j)) (c .before .before .mark-step .ensures))
+loop-again c = let marked = c .before .before in (refl, omega arith, rw (add-one (marked .before .before .before .loop .j)) (marked .mark-step .ensures))
 
 same-length : tie.Need-same-length Inv-loop μ-loop
-same-length c = c .before .loop .inv .2 .size ∙ sym (c .before .before .before .before .pre .2 .size)
+same-length c = c .before .loop .inv .2 .size ∙ sym (entry (c .before) .pre .2 .size)
 
 returns : tie.Need-returns Inv-loop μ-loop
 unfolding steps
-returns c = let here = c .before .before .before .before in
-    let e : c .before .loop .j ≡ length (here .args .log .now) / 4 = omega arith in
-    same-edges (rw e at (c .before .loop .inv .2)) (all-conflicts _ (well-formed _ (here .pre .0)))
+returns c = let start = entry (c .before) in
+    let e : c .before .loop .j ≡ length (start .args .log .now) / 4 = omega arith in
+    same-edges (rw e at (c .before .loop .inv .2)) (all-conflicts _ (well-formed _ (start .pre .0)))
 
 pub draw-spec : {M : Type 1} → statement M
 draw-spec =

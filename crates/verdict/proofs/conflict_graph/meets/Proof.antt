@@ -1,5 +1,7 @@
 -- `meets` meets its contract.
-use mathlib.Core.Path.{sym, _∙_}
+use mathlib.Core.Path.{_≡_, sym, _∙_}
+use mathlib.Core.List.{List}
+use Prim.Native.Nat.{ℕ}
 use Rattle.words.specs.Tests.{_is_}
 use Rattle.verdict.specs.Log.{kind, obj}
 use Rattle.words.proofs.Truth.{→or-left, or-false, →is, →isnt}
@@ -8,88 +10,70 @@ use borrow.Author.Needs.{needs}
 use Rattle.verdict.proofs.conflict_graph.meets.Statement.{statement}
 use Rattle.verdict.proofs.conflict_graph.meets.Tie as tie
 
-mul-k : tie.Need-mul-k
-mul-k c = search needs
+-- where both steps are known; and from behind the first test
+abbrev both : tie.After-struct-known2 → tie.After-step-at2
+both c = c .before .before
 
-mul-k-2 : tie.Need-mul-k-2
-mul-k-2 c = search needs
+abbrev both2 : tie.After-struct-known3 → tie.After-step-at2
+both2 c = both (c .before .before)
 
-shared-slice-read-k : tie.Need-shared-slice-read-k
-shared-slice-read-k c = search needs
+module _ (c : tie.After-step-at2) where
+  abbrev the-log : List ℕ
+  the-log = c .before .before .before .args .log .now
 
-mul-l : tie.Need-mul-l
-mul-l c = search needs
+  abbrev i : ℕ
+  i = c .before .before .before .args .i
 
-mul-l-2 : tie.Need-mul-l-2
-mul-l-2 c = search needs
+  abbrev j : ℕ
+  j = c .before .before .before .args .j
 
-shared-slice-read-l : tie.Need-shared-slice-read-l
-shared-slice-read-l c = search needs
+-- the steps touch one object
+one-object : (c : tie.Else1) → obj (the-log (both (c .before))) (i (both (c .before))) ≡ obj (the-log (both (c .before))) (j (both (c .before)))
+one-object c = let at = both (c .before) in sym (at .before .step-at .ensures .obj-is) ∙ c .if1 .left ∙ at .step-at2 .ensures .obj-is
 
-mul-if1 : tie.Need-mul-if1
-mul-if1 c = search needs
+-- the earlier one writes, or does not
+is-write : (c : tie.Then2) → kind (the-log (both2 (c .before))) (i (both2 (c .before))) ≡ 3
+is-write c = sym (both2 (c .before) .before .step-at .ensures .kind-is) ∙ c .if2 .taken
 
-add-if1 : tie.Need-add-if1
-add-if1 c = search needs
+no-write : (c : tie.Else2) → kind (the-log (both2 (c .before))) (i (both2 (c .before))) ≡ 3 → ⊥
+no-write c e = c .if2 .left (both2 (c .before) .before .step-at .ensures .kind-is ∙ e)
 
-mul-if1-2 : tie.Need-mul-if1-2
-mul-if1-2 c = search needs
+step-at-requires : tie.Need-step-at-requires
+step-at-requires c κs = search needs
 
-shared-slice-read-if1 : tie.Need-shared-slice-read-if1
-shared-slice-read-if1 c = search needs
-
-mul-if1-3 : tie.Need-mul-if1-3
-mul-if1-3 c = search needs
-
-add-if1-2 : tie.Need-add-if1-2
-add-if1-2 c = search needs
-
-mul-if1-4 : tie.Need-mul-if1-4
-mul-if1-4 c = search needs
-
-shared-slice-read-if1-2 : tie.Need-shared-slice-read-if1-2
-shared-slice-read-if1-2 c = search needs
+step-at-requires-2 : tie.Need-step-at-requires-2
+step-at-requires-2 c κs = search needs
 
 returns : tie.Need-returns
-unfolding kind obj
-returns c = sym (other-object _ _ _ (c .if1 .taken))
+returns c = let at = both (c .before) in
+    sym (other-object _ _ _ (λ e. c .if1 .taken (at .before .step-at .ensures .obj-is ∙ e ∙ sym (at .step-at2 .ensures .obj-is))))
 
 returns-2 : tie.Need-returns-2
-unfolding kind obj _is_
-returns-2 c = →is (c .if3 .taken) ∙ sym (write-meets _ _ _ (c .before .before .if1 .left) (c .before .if2 .taken) ∙ →or-left _ (→is (c .if3 .taken)))
+unfolding _is_
+returns-2 c = let writing = c .before .before in
+    rw (both2 (writing .before) .step-at2 .ensures .kind-is)
+    (let reads = sym (both2 (writing .before) .step-at2 .ensures .kind-is) ∙ c .if3 .taken in
+    →is reads ∙ sym (write-meets _ _ _ (one-object (writing .before .before)) (is-write writing) ∙ →or-left _ (→is reads)))
 
 returns-3 : tie.Need-returns-3
-unfolding kind obj _is_
-returns-3 c = sym (write-meets _ _ _ (c .before .before .if1 .left) (c .before .if2 .taken) ∙ or-false (→isnt (c .if3 .left)))
+unfolding _is_
+returns-3 c = let writing = c .before .before .before in
+    let later = both2 (writing .before) .step-at2 .ensures in
+    rw (later .kind-is)
+    (sym (write-meets _ _ _ (one-object (writing .before .before)) (is-write writing) ∙ or-false (→isnt (λ e. c .before .if3 .left (later .kind-is ∙ e)))))
 
 returns-4 : tie.Need-returns-4
-unfolding kind obj
-returns-4 c = sym (no-touch _ _ _ (c .if4 .taken) (c .before .if2 .left))
+returns-4 c = let other = c .before .before in
+    sym (no-touch _ _ _ (λ e. c .if4 .taken (both2 (other .before) .before .step-at .ensures .kind-is ∙ e)) (no-write other))
 
 returns-5 : tie.Need-returns-5
-unfolding kind obj _is_
-returns-5 c = sym (read-meets _ _ _ (c .before .before .if1 .left) (c .if4 .left) (c .before .if2 .left))
+unfolding _is_
+returns-5 c = let other = c .before .before .before in
+    let steps = both2 (other .before) in
+    rw (steps .step-at2 .ensures .kind-is)
+    (sym (read-meets _ _ _ (one-object (other .before .before)) (sym (steps .before .step-at .ensures .kind-is) ∙ c .before .if4 .left) (no-write other)))
 
 pub meets-spec : {M : Type 1} → statement M
 meets-spec =
     tie.close
-    (tie.spec
-    mul-k
-    mul-k-2
-    shared-slice-read-k
-    mul-l
-    mul-l-2
-    shared-slice-read-l
-    mul-if1
-    add-if1
-    mul-if1-2
-    shared-slice-read-if1
-    mul-if1-3
-    add-if1-2
-    mul-if1-4
-    shared-slice-read-if1-2
-    returns
-    returns-2
-    returns-3
-    returns-4
-    returns-5)
+    (tie.spec step-at-requires step-at-requires-2 returns returns-2 returns-3 returns-4 returns-5)

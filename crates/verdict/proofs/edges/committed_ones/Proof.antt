@@ -1,15 +1,14 @@
 -- `committed_ones` meets its contract.
-use mathlib.Core.Path.{_≡_, refl, _∙_}
+use mathlib.Core.Path.{_≡_, refl, sym, _∙_}
 use mathlib.Core.Logic.{⊎-elim}
 use mathlib.Core.List.{List}
 use Prim.Native.Nat.{ℕ, suc, _-_, _/_, _≤_}
 use lib.ListN.{length, length-set}
 use Rattle.words.specs.Tests.{some}
 use Rattle.verdict.specs.Limits.{transactions}
-use Rattle.verdict.specs.Log.{steps, kind, tx, commits}
-use Rattle.verdict.specs.Refusal.{taken, log-refusal}
-use Rattle.verdict.specs.Walk.{Marked}
-use Rattle.verdict.proofs.WellFormed.{well-formed}
+use Rattle.verdict.specs.Log.{steps, commits}
+use Rattle.verdict.specs.Inner.Marks.{Marked}
+use Rattle.verdict.proofs.WellFormed.{Well, well-formed}
 use Rattle.verdict.proofs.Marks.{unmarked}
 use Rattle.verdict.proofs.Matrices.{commit-marked, commit-none, all-committed}
 use borrow.Author.Needs.{needs}
@@ -18,48 +17,38 @@ use Rattle.verdict.proofs.edges.committed_ones.Statement.{statement}
 use Rattle.verdict.proofs.edges.committed_ones.Tie as tie
 
 abbrev Inv-loop : tie.InvT-loop
-Inv-loop log n part₀ i₀ part i = (n ≡ length log / 4) × (i ≤ n) × (log-refusal log ≡ taken) × (length part ≡ 128) × Marked transactions (λ d. some i (commits log (suc d))) part
+Inv-loop log n part₀ i₀ part i = (n ≡ length log / 4) × (i ≤ n) × (length part ≡ 128) × Marked transactions (λ d. some i (commits log (suc d))) part
 
 abbrev μ-loop : tie.MeasureT-loop
 μ-loop log n part₀ i₀ part i = n - i
 
+-- the log, from the top of the loop
+abbrev the-log : tie.At-loop Inv-loop μ-loop → List ℕ
+the-log c = c .before .before .args .log .now
+
+well : (c : tie.At-loop Inv-loop μ-loop) → Well transactions (the-log c)
+well c = well-formed (the-log c) (c .before .before .pre)
+
+-- the step's transaction
+range : (c : tie.After-step-at Inv-loop μ-loop) → (1 ≤ c .step-at .result .tx) × (c .step-at .result .tx ≤ transactions)
+unfolding steps
+range c = rw (c .step-at .ensures .tx-is) (well (c .before .before) .range (c .before .before .loop .i) (omega arith))
+
 loop-holds : tie.Need-loop-holds Inv-loop μ-loop
 unfolding some
-loop-holds c = (refl, omega arith, c .before .pre, refl, unmarked 128 _ (omega arith) (λ d. refl))
+loop-holds c = (refl, omega arith, refl, unmarked 128 _ (omega arith) (λ d. refl))
 
-mul-if1 : tie.Need-mul-if1 Inv-loop μ-loop
-mul-if1 c = omega arith
-
-mul-if1-2 : tie.Need-mul-if1-2 Inv-loop μ-loop
-mul-if1-2 c = omega arith
-
-shared-slice-read-if1 : tie.Need-shared-slice-read-if1 Inv-loop μ-loop
-shared-slice-read-if1 c = omega arith
-
-mul-index : tie.Need-mul-index Inv-loop μ-loop
-mul-index c = omega arith
-
-add-index : tie.Need-add-index Inv-loop μ-loop
-add-index c = omega arith
-
-mul-index-2 : tie.Need-mul-index-2 Inv-loop μ-loop
-mul-index-2 c = omega arith
-
-shared-slice-read-index : tie.Need-shared-slice-read-index Inv-loop μ-loop
-shared-slice-read-index c = omega arith
+step-at-requires : tie.Need-step-at-requires Inv-loop μ-loop
+step-at-requires c κs = omega arith
 
 index-requires : tie.Need-index-requires Inv-loop μ-loop
 index-requires c κs = search needs
 
 sub-part : tie.Need-sub-part Inv-loop μ-loop
-unfolding steps tx
-sub-part c = let at = c .before .before .before .before .before in rw (c .index .ensures) (well-formed _ (at .loop .inv .2) .range (at .loop .i) (omega arith) .0)
+sub-part c = rw (c .index .ensures) (range (c .before .before .before) .0)
 
 array-write-part : tie.Need-array-write-part Inv-loop μ-loop
-unfolding steps tx
-array-write-part c = let at = c .before .before .before .before .before in
-    let high : tx (at .before .before .args .log .now) (at .loop .i) ≤ transactions = well-formed _ (at .loop .inv .2) .range (at .loop .i) (omega arith) .1 in
-    rw (c .index .ensures) (omega arith)
+array-write-part c = rw (c .index .ensures) (omega (arith, range (c .before .before .before)))
 
 add-i : tie.Need-add-i Inv-loop μ-loop
 add-i c = omega arith
@@ -68,23 +57,21 @@ loop-less : tie.Need-loop-less Inv-loop μ-loop
 loop-less c = omega arith
 
 loop-again : tie.Need-loop-again Inv-loop μ-loop
-unfolding steps kind tx
-loop-again c = let at = c .before .before .before in
-    let log : List ℕ = at .before .before .args .log .now in
-    let well = well-formed log (at .loop .inv .2) in
-    let i : ℕ = at .loop .i in (
+unfolding steps
+loop-again c = let step = c .before .before .step-at .ensures in
+    let top = c .before .before .before .before in
+    let i : ℕ = top .loop .i in (
       refl,
       omega arith,
-      at .loop .inv .2,
-      ⊎-elim (λ w. rw (w .3) (length-set (at .loop .part) _ 1 ∙ at .loop .inv .3)) (λ w. rw (w .1) (at .loop .inv .3)) (c .if1 .came),
-      ⊎-elim (λ w. rw (w .3, w .2 .ensures) (commit-marked log well i (at .loop .inv .4) (at .loop .inv .3) (omega arith) (w .0 .taken)))
-          (λ w. rw (w .1) (commit-none log well i (at .loop .inv .4) (w .0 .left))) (c .if1 .came),
+      ⊎-elim (λ w. rw (w .2) (length-set (top .loop .part) _ 1 ∙ top .loop .inv .2)) (λ w. rw (w .1) (top .loop .inv .2)) (c .if1 .came),
+      ⊎-elim (λ w. rw (w .2, w .1 .ensures, step .tx-is) (commit-marked _ (well top) i (top .loop .inv .3) (top .loop .inv .2) (omega arith) (sym (step .kind-is) ∙ w .0 .taken)))
+          (λ w. rw (w .1) (commit-none _ (well top) i (top .loop .inv .3) (λ e. w .0 .left (step .kind-is ∙ e)))) (c .if1 .came),
     )
 
 returns : tie.Need-returns Inv-loop μ-loop
 unfolding steps
-returns c = let e : c .before .loop .i ≡ length (c .before .before .before .args .log .now) / 4 = omega arith in
-    all-committed _ (well-formed _ (c .before .loop .inv .2)) (rw e at (c .before .loop .inv .4))
+returns c = let e : c .before .loop .i ≡ length (the-log (c .before)) / 4 = omega arith in
+    all-committed _ (well (c .before)) (rw e at (c .before .loop .inv .3))
 
 pub committed-ones-spec : {M : Type 1} → statement M
 committed-ones-spec =
@@ -93,13 +80,7 @@ committed-ones-spec =
     Inv-loop
     μ-loop
     loop-holds
-    mul-if1
-    mul-if1-2
-    shared-slice-read-if1
-    mul-index
-    add-index
-    mul-index-2
-    shared-slice-read-index
+    step-at-requires
     index-requires
     sub-part
     array-write-part

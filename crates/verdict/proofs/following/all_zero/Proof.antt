@@ -5,7 +5,7 @@ use native.Mathlib.Omega.{arith}
 use lib.ListN.{length, drop}
 use Rattle.words.specs.Tests.{_is_}
 use Rattle.words.specs.Lists.{all}
-use Rattle.verdict.proofs.NextLaws.{zero-more, zero-not, zero-all}
+use Rattle.verdict.proofs.HandedIn.{zero-more, zero-not, zero-all}
 use Rattle.verdict.proofs.following.all_zero.Statement.{statement}
 use Rattle.verdict.proofs.following.all_zero.Tie as tie
 

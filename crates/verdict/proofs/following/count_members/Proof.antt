@@ -2,7 +2,7 @@
 use Prim.Native.Nat.{_-_, _≤_}
 use native.Mathlib.Omega.{arith}
 use lib.ListN.{length}
-use Rattle.verdict.proofs.NextLaws.{front-none, front-more, front-ends, front-whole, Front}
+use Rattle.verdict.proofs.HandedIn.{front-none, front-more, front-ends, front-whole, Front}
 use Rattle.verdict.proofs.following.count_members.Statement.{statement}
 use Rattle.verdict.proofs.following.count_members.Tie as tie
 

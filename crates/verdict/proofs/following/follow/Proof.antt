@@ -1,17 +1,42 @@
 -- `follow` meets its contract.
-use mathlib.Core.Path.{refl, sym, ap, _∙_}
+use mathlib.Core.Path.{_≡_, refl, sym, _∙_}
 use mathlib.Core.List.{List}
 use Prim.Native.Nat.{ℕ}
 use borrow.Author.Needs.{needs}
 use borrow.Author.Tests.{not-true, not-false}
-use lib.ListN.{take}
-use Rattle.words.specs.Lists.{zeros}
-use Rattle.verdict.specs.Limits.{transactions}
-use Rattle.verdict.specs.Call.{turned-away}
-use Rattle.verdict.proofs.NextLaws.{explains-matrix, next-found, more-behind, not-listed, on-the-list, at-front, retold-later}
+use lib.ListN.{length, take}
 use lib.Seq.{length-take-le}
+use Rattle.verdict.specs.Limits.{transactions}
+use Rattle.verdict.specs.Replay.{explains}
+use Rattle.verdict.specs.Inner.Following.{not-listed, follows}
+use Rattle.verdict.proofs.HandedIn.{more-behind, off-the-list, on-the-list}
+use Rattle.verdict.proofs.NextLaws.{explains-matrix, next-found}
 use Rattle.verdict.proofs.following.follow.Statement.{statement}
 use Rattle.verdict.proofs.following.follow.Tie as tie
+
+-- the entry, the count, and the answers to both questions, each from where the next is asked
+abbrev entry : tie.After-count-members → tie.Start
+entry c = c .before .before .before
+
+abbrev counted : tie.After-all-zero → tie.After-count-members
+counted c = c .before
+
+abbrev zeros-known : tie.After-keeps → tie.After-all-zero
+zeros-known c = c .before .before .before
+
+abbrev kept-known : tie.After-bring-arg → tie.After-keeps
+kept-known c = c .before .before
+
+-- the numbers before the first 0
+abbrev front : tie.After-count-members → List ℕ
+front c = take (c .count-members .result) (entry c .args .order .now)
+
+front-length : (c : tie.After-count-members) → c .count-members .result ≡ length (front c)
+front-length c = sym (length-take-le _ _ (c .count-members .ensures .size))
+
+-- `keeps` says whether they explain
+kept : (c : tie.After-keeps) → let p = counted (zeros-known c) in explains transactions (entry p .args .log .now) (front p) ≡ c .keeps .result
+kept c = let p = counted (zeros-known c) in let q = entry p .pre in explains-matrix _ (q .0) (q .1) (q .2) (q .3) (front p) ∙ sym (c .keeps .ensures)
 
 count-members-requires : tie.Need-count-members-requires
 count-members-requires c κs = search needs
@@ -19,86 +44,45 @@ count-members-requires c κs = search needs
 all-zero-requires : tie.Need-all-zero-requires
 all-zero-requires c κs = search needs
 
+not-listed-requires : tie.Need-not-listed-requires
+not-listed-requires c κs = search needs
+
 returns : tie.Need-returns
 returns c =
-    let a = c .before .before .before .before .before .before .before in
-    let q = a .pre in
-    let log : List ℕ = a .args .log .now in
-    let given : List ℕ = a .args .order .now in
-    let k : ℕ = c .before .before .count-members .result in
-    let s = c .before .before .count-members .ensures in
-    turned-away 14 0 (sym (more-behind log given k s (sym (c .before .all-zero .ensures) ∙ not-true _ (c .if1 .taken)))) refl refl
+    let z = c .before .before in
+    not-listed (more-behind _ _ _ (counted z .count-members .ensures) (sym (z .all-zero .ensures) ∙ not-true _ (c .before .if1 .taken))) (c .not-listed .ensures)
 
 slice-aggregate-keeps : tie.Need-slice-aggregate-keeps
-slice-aggregate-keeps c = sym (length-take-le _ _ (c .before .before .before .before .count-members .ensures .size))
+slice-aggregate-keeps c = front-length (counted (c .before .before))
 
 keeps-requires : tie.Need-keeps-requires
 keeps-requires c κs = search needs
 
+not-listed-requires-2 : tie.Need-not-listed-requires-2
+not-listed-requires-2 c κs = search needs
+
 returns-2 : tie.Need-returns-2
 returns-2 c =
-    let a = c .before .before .before .before .before .before .before .before .before .before .before in
-    let q = a .pre in
-    let log : List ℕ = a .args .log .now in
-    let given : List ℕ = a .args .order .now in
-    let k : ℕ = c .before .before .before .before .before .before .count-members .result in
-    let s = c .before .before .before .before .before .before .count-members .ensures in
-    turned-away 14 0 (sym (not-listed log given k s (explains-matrix log (q .0) (q .1) (q .2) (q .3) (take k given) ∙ sym (c .before .keeps .ensures) ∙ not-true _ (c .if2 .taken)))) refl refl
+    let k = c .before .before in
+    not-listed (off-the-list _ _ _ (counted (zeros-known k) .count-members .ensures) (kept k ∙ not-true _ (c .before .if2 .taken))) (c .not-listed2 .ensures)
 
-slice-aggregate-next : tie.Need-slice-aggregate-next
-slice-aggregate-next c = sym (length-take-le _ _ (c .before .before .before .before .before .before .before .before .count-members .ensures .size))
+slice-aggregate-bring : tie.Need-slice-aggregate-bring
+slice-aggregate-bring c = front-length (counted (zeros-known (kept-known c)))
 
-next-requires : tie.Need-next-requires
-next-requires c κs =
-    let q = c .before .before .before .before .before .before .before .before .before .before .before .before .before .before .pre in
-    (q .3 .size, q .5, sym (c .before .before .before .before .keeps .ensures) ∙ not-false _ (c .before .before .before .if2 .left))
-
-clear-requires : tie.Need-clear-requires
-clear-requires c κs = search needs
-
-enum-known-found : tie.Need-enum-known-found
-enum-known-found c = search needs
-
-enum-told : tie.Need-enum-told
-enum-told c = search needs
-
-same-length : tie.Need-same-length
-same-length c = search needs
-
-same-length-2 : tie.Need-same-length-2
-same-length-2 c = search needs
+bring-requires : tie.Need-bring-requires
+bring-requires c κs = sym (kept-known c .keeps .ensures) ∙ not-false _ (c .before .if2 .left)
 
 returns-3 : tie.Need-returns-3
-unfolding retold-later
 returns-3 c =
-    let a = c .before .before .before .before .before .before .before .before .before .before .before .before .before .before .before .before .before .before .before .before .before .before .before .before in
-    let q = a .pre in
-    let log : List ℕ = a .args .log .now in
-    let given : List ℕ = a .args .order .now in
-    let k : ℕ = c .before .before .before .before .before .before .before .before .before .before .before .before .before .before .before .before .before .before .before .count-members .result in
-    let s = c .before .before .before .before .before .before .before .before .before .before .before .before .before .before .before .before .before .before .before .count-members .ensures in
-    let z = sym (c .before .before .before .before .before .before .before .before .before .before .before .before .before .before .before .before .before .before .all-zero .ensures) ∙ not-false _ (c .before .before .before .before .before .before .before .before .before .before .before .before .before .before .before .before .before .if1 .left) in
-    let x = explains-matrix log (q .0) (q .1) (q .2) (q .3) (take k given) ∙ sym (c .before .before .before .before .before .before .before .before .before .before .before .before .before .before .keeps .ensures) ∙ not-false _ (c .before .before .before .before .before .before .before .before .before .before .before .before .before .if2 .left) in
-    next-found log (q .0) (q .1) (q .2) (q .3) given (at-front transactions s (c .before .before .before .before .before .before .before .before .before .next .ensures)) (on-the-list log given k s z x) (sym (ap retold-later (c .before .found .given .1))) (c .before .before .before .before .before .clear .ensures ∙ ap zeros (q .4))
-
-same-length-3 : tie.Need-same-length-3
-same-length-3 c = search needs
-
-same-length-4 : tie.Need-same-length-4
-same-length-4 c = search needs
-
-returns-4 : tie.Need-returns-4
-unfolding retold-later
-returns-4 c =
-    let a = c .before .before .before .before .before .before .before .before .before .before .before .before .before .before .before .before .before .before .before .before .before .before .before in
-    let q = a .pre in
-    let log : List ℕ = a .args .log .now in
-    let given : List ℕ = a .args .order .now in
-    let k : ℕ = c .before .before .before .before .before .before .before .before .before .before .before .before .before .before .before .before .before .before .count-members .result in
-    let s = c .before .before .before .before .before .before .before .before .before .before .before .before .before .before .before .before .before .before .count-members .ensures in
-    let z = sym (c .before .before .before .before .before .before .before .before .before .before .before .before .before .before .before .before .before .all-zero .ensures) ∙ not-false _ (c .before .before .before .before .before .before .before .before .before .before .before .before .before .before .before .before .if1 .left) in
-    let x = explains-matrix log (q .0) (q .1) (q .2) (q .3) (take k given) ∙ sym (c .before .before .before .before .before .before .before .before .before .before .before .before .before .keeps .ensures) ∙ not-false _ (c .before .before .before .before .before .before .before .before .before .before .before .before .if2 .left) in
-    next-found log (q .0) (q .1) (q .2) (q .3) given (at-front transactions s (c .before .before .before .before .before .before .before .before .next .ensures)) (on-the-list log given k s z x) (sym (ap retold-later (c .enum-told .given .1))) (c .before .before .before .before .clear .ensures ∙ ap zeros (q .4))
+    let k = kept-known (c .before) in
+    let z = zeros-known k in
+    let p = counted z in
+    let split = p .count-members .ensures in
+    let q = entry p .pre in
+    follows
+    (on-the-list _ _ _ split (sym (z .all-zero .ensures) ∙ not-false _ (k .before .before .if1 .left)) (kept k ∙ not-false _ (c .before .before .if2 .left)))
+    refl
+    (rw (split .front) (next-found _ (q .0) (q .1) (q .2) (q .3) (c .bring .ensures)))
 
 pub follow-spec : {M : Type 1} → statement M
 follow-spec =
@@ -106,18 +90,12 @@ follow-spec =
     (tie.spec
     count-members-requires
     all-zero-requires
+    not-listed-requires
     returns
     slice-aggregate-keeps
     keeps-requires
+    not-listed-requires-2
     returns-2
-    slice-aggregate-next
-    next-requires
-    clear-requires
-    enum-known-found
-    enum-told
-    same-length
-    same-length-2
-    returns-3
-    same-length-3
-    same-length-4
-    returns-4)
+    slice-aggregate-bring
+    bring-requires
+    returns-3)

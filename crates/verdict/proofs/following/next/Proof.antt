@@ -1,15 +1,29 @@
 -- `next` meets its contract.
-use mathlib.Core.Path.{refl, sym, _∙_}
+use mathlib.Core.Path.{sym}
 use borrow.Author.Needs.{needs}
-use Rattle.verdict.specs.Refusal.{work-refusal, witness-refusal}
-use Rattle.verdict.specs.Said.{said-refusal}
-use Rattle.verdict.specs.Call.{turned-away}
+use Rattle.verdict.specs.Refusal.{_else-try_, log-refusal, work-refusal, witness-refusal, order-refusal}
 use Rattle.verdict.proofs.WellFormed.{else-try→}
-use Rattle.verdict.proofs.Refused.{tried-refused, tried-taken, try-more-3}
-use Rattle.verdict.proofs.Frame.{work-length, witness-length, instead}
-use Rattle.verdict.proofs.Steps.{said-refused, said-passed}
+use Rattle.verdict.proofs.Frame.{Admitted, admitted, else-assoc, refused-early, refused-later, admitted-later, call-left}
+use Rattle.verdict.proofs.NextLaws.{comes-refused, comes-next}
 use Rattle.verdict.proofs.following.next.Statement.{statement}
 use Rattle.verdict.proofs.following.next.Tie as tie
+
+-- the entry, from where the buffers and the log were looked at
+abbrev entry : tie.After-admit-order → tie.Start
+entry c = c .before .before .before .before .before
+
+-- nothing but 14 may turn the call away
+passed : (c : tie.After-enum-told) → let start = entry (c .before .before) in
+    Admitted (order-refusal (start .args .order .now) else-try log-refusal (start .args .log .now)) (start .args .work .now) (start .args .witness .now)
+unfolding work-refusal witness-refusal order-refusal
+passed c = admitted _ _ _ (c .before .before .admit-order .ensures) (c .enum-told .given .1)
+
+-- what comes after the order, from where 14 is known not to apply; and before it the check
+abbrev following : tie.After-enum-told2 → tie.After-after-order
+following c = c .before .before .before
+
+abbrev checked : tie.After-after-order → tie.After-enum-told
+checked c = c .before
 
 admit-order-requires : tie.Need-admit-order-requires
 admit-order-requires c κs = search needs
@@ -17,20 +31,30 @@ admit-order-requires c κs = search needs
 enum-known-admitted : tie.Need-enum-known-admitted
 enum-known-admitted c = search needs
 
+returns : tie.Need-returns
+unfolding work-refusal witness-refusal order-refusal
+returns c = refused-early _ _ (sym (else-assoc _ _ _)) _ (c .before .before .before .admit-order .ensures) (c .before .admitted .given .1)
+
 enum-told : tie.Need-enum-told
 enum-told c = search needs
 
 after-order-requires : tie.Need-after-order-requires
-unfolding said-refusal work-refusal witness-refusal
-after-order-requires c κs =
-    let a = c .before .before .before .before .before .before .before .before .before .args in
-    let t = said-passed _ (sym (c .before .before .before .before .admit-order .ensures) ∙ c .before .before .enum-told .given .1) in
-    let u = else-try→ (else-try→ t .1) in
-    (else-try→ (u .1) .1, work-length (a .work .now) (else-try→ t .0), witness-length (a .witness .now) (u .0))
+after-order-requires c κs = else-try→ (passed c .well) .1
 
-returns : tie.Need-returns
-unfolding said-refusal work-refusal witness-refusal
-returns c = turned-away _ _ (sym (try-more-3 _ _ _ _ _ ∙ tried-refused _ (said-refused _ (sym (c .before .before .before .admit-order .ensures) ∙ c .before .admitted .given .1)))) refl refl
+enum-known-checked : tie.Need-enum-known-checked
+enum-known-checked c = search needs
+
+enum-told-2 : tie.Need-enum-told-2
+enum-told-2 c = search needs
+
+leave-requires : tie.Need-leave-requires
+leave-requires c κs = passed (checked (following (c .before .before))) .witness-size
+
+returns-2 : tie.Need-returns-2
+returns-2 c =
+    let known = c .before in
+    let comes = known .before .before .before in
+    refused-later _ _ (sym (else-assoc _ _ _)) _ (passed (checked comes)) (comes-refused (comes .after-order .ensures) (known .checked .given .1))
 
 same-length : tie.Need-same-length
 same-length c = search needs
@@ -38,11 +62,13 @@ same-length c = search needs
 same-length-2 : tie.Need-same-length-2
 same-length-2 c = search needs
 
-returns-2 : tie.Need-returns-2
-unfolding said-refusal work-refusal witness-refusal
-returns-2 c =
-    let t = said-passed _ (sym (c .before .before .before .before .before .before .before .before .before .admit-order .ensures) ∙ c .before .before .before .before .before .before .before .enum-told .given .1) in
-    instead (try-more-3 _ _ _ _ _ ∙ tried-taken _ t) (c .before .before .before .before .after-order .ensures)
+returns-3 : tie.Need-returns-3
+returns-3 c =
+    let left = c .before .before .before .before in
+    let known = left .before .before .before in
+    let comes = following known in
+    let is = comes-next (comes .after-order .ensures) (known .enum-told2 .given .1) in
+    call-left (admitted-later _ _ (sym (else-assoc _ _ _)) (passed (checked comes)) (is .0)) (is .1) (left .leave .ensures)
 
 pub next-spec : {M : Type 1} → statement M
 next-spec =
@@ -50,9 +76,13 @@ next-spec =
     (tie.spec
     admit-order-requires
     enum-known-admitted
+    returns
     enum-told
     after-order-requires
-    returns
+    enum-known-checked
+    enum-told-2
+    leave-requires
+    returns-2
     same-length
     same-length-2
-    returns-2)
+    returns-3)

@@ -1,6 +1,5 @@
 -- `admit_witness` meets its contract.
-use mathlib.Core.Path.{sym, ap, _∙_}
-use Rattle.verdict.specs.Said.{said-refusal}
+use mathlib.Core.Path.{sym, _∙_}
 use Rattle.words.proofs.Truth.{→fails, →not-fails, →is, →isnt}
 use Rattle.verdict.proofs.Refused.{first-yes, first-no}
 use borrow.Author.Needs.{needs}
@@ -8,18 +7,16 @@ use Rattle.verdict.proofs.refusal.admit_witness.Statement.{statement}
 use Rattle.verdict.proofs.refusal.admit_witness.Tie as tie
 
 returns : tie.Need-returns
-unfolding said-refusal
-returns c = sym (ap said-refusal (first-yes 12 0 _ (→fails (→isnt (c .if1 .taken)))))
+returns c = sym (first-yes 12 0 _ (→fails (→isnt (c .if1 .taken))))
 
 returns-2 : tie.Need-returns-2
-unfolding said-refusal
-returns-2 c = sym (ap said-refusal (first-no 12 0 _ (→not-fails (→is (c .before .if1 .left))) ∙ first-yes 12 0 _ (→fails (→isnt (c .if2 .taken)))))
+returns-2 c = sym (first-no 12 0 _ (→not-fails (→is (c .before .if1 .left))) ∙ first-yes 12 0 _ (→fails (→isnt (c .if2 .taken))))
 
 check-requires : tie.Need-check-requires
 check-requires c κs = search needs
 
 returns-3 : tie.Need-returns-3
-returns-3 c = c .check .ensures ∙ sym (ap said-refusal (first-no 12 0 _ (→not-fails (→is (c .before .before .if1 .left))) ∙ first-no 12 0 _ (→not-fails (→is (c .before .if2 .left)))))
+returns-3 c = c .check .ensures ∙ sym (first-no 12 0 _ (→not-fails (→is (c .before .before .if1 .left))) ∙ first-no 12 0 _ (→not-fails (→is (c .before .if2 .left))))
 
 pub admit-witness-spec : {M : Type 1} → statement M
 admit-witness-spec = tie.close (tie.spec returns returns-2 check-requires returns-3)

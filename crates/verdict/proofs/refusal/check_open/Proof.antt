@@ -1,19 +1,19 @@
 -- `check_open` meets its contract.
-use mathlib.Core.Path.{_≡_, refl, sym, ap, _∙_}
+use mathlib.Core.Path.{_≡_, refl, sym, _∙_}
 use mathlib.Core.Logic.{inl, inr, ⊎-elim}
 use Prim.Native.Nat.{_-_, _≤_}
 use native.Mathlib.Omega.{arith}
-use Rattle.verdict.specs.Refusal.{taken, tried}
-use Rattle.verdict.specs.Said.{said-refusal}
-use Rattle.verdict.specs.Walk.{open-by-marks}
+use Rattle.verdict.specs.declared.answers.Checked.the-variants.{Passed}
+use Rattle.verdict.specs.Refusal.{tried}
+use Rattle.verdict.specs.Inner.Checking.{open-by-marks}
 use borrow.Author.Tests.{not-true, not-false}
 use Rattle.verdict.proofs.Refused.{tried-none, tried-first}
-use Rattle.verdict.proofs.Steps.{still-open, not-open}
+use Rattle.verdict.proofs.Numbers.{still-open, not-open}
 use Rattle.verdict.proofs.refusal.check_open.Statement.{statement}
 use Rattle.verdict.proofs.refusal.check_open.Tie as tie
 
 abbrev Inv-loop : tie.InvT-loop
-Inv-loop begins ends t₀ t = (t ≤ 129) × (tried t (open-by-marks begins ends) ≡ taken)
+Inv-loop begins ends t₀ t = (t ≤ 129) × (tried t (open-by-marks begins ends) ≡ Passed)
 
 abbrev μ-loop : tie.MeasureT-loop
 μ-loop begins ends t₀ t = 129 - t
@@ -32,11 +32,10 @@ cast-t8 : tie.Need-cast-t8 Inv-loop μ-loop
 cast-t8 c = omega arith
 
 returns : tie.Need-returns Inv-loop μ-loop
-unfolding said-refusal
 returns c =
-    let at = c .before .before .before .before .before in
-    let a = at .before .args in
-    sym (ap said-refusal (tried-first (open-by-marks (a .begins .now) (a .ends .now)) (at .loop .t) (omega arith) (at .loop .inv .1) (still-open _ _ (at .loop .t) (sym (c .before .before .before .marked .ensures) ∙ c .before .before .if1 .taken) (sym (c .before .marked2 .ensures) ∙ not-true _ (c .if2 .taken)))))
+    let one = c .before .before in
+    let at = one .before .before .before in
+    sym (tried-first _ (at .loop .t) (omega arith) (at .loop .inv .1) (still-open _ _ (at .loop .t) (sym (one .before .marked .ensures) ∙ one .if1 .taken) (sym (c .before .marked2 .ensures) ∙ not-true _ (c .if2 .taken))))
 
 add-t : tie.Need-add-t Inv-loop μ-loop
 add-t c = omega arith
@@ -50,8 +49,7 @@ loop-again c =
     (omega arith, tried-none _ _ (at .loop .inv .1) (not-open _ _ (at .loop .t) (⊎-elim (λ w. inr (sym (w .1 .ensures) ∙ not-false _ (w .2 .left))) (λ w. inl (sym (c .before .marked .ensures) ∙ w .left)) (c .if1 .came))))
 
 returns-2 : tie.Need-returns-2 Inv-loop μ-loop
-unfolding said-refusal
-returns-2 c = let e : c .before .loop .t ≡ 129 = omega arith in sym (ap said-refusal (rw e at (c .before .loop .inv .1)))
+returns-2 c = let e : c .before .loop .t ≡ 129 = omega arith in sym (rw e at (c .before .loop .inv .1))
 
 pub check-open-spec : {M : Type 1} → statement M
 check-open-spec =

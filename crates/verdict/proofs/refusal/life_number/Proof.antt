@@ -1,86 +1,76 @@
 -- `life_number` meets its contract.
-use mathlib.Core.Path.{sym}
-use Rattle.words.specs.Tests.{_is_, fails}
-use Rattle.verdict.specs.Log.{kind, tx}
-use Rattle.verdict.specs.Refusal.{_at_when_}
-use Rattle.verdict.specs.Walk.{numbered}
-use borrow.Author.Tests.{not-true, not-false}
-use Rattle.verdict.proofs.Steps.{begun-again, begins-now, not-begun, has-ended, under-way}
-use Rattle.verdict.proofs.Noting.{by-mark}
+use mathlib.Core.Path.{_≡_, sym, _∙_}
+use mathlib.Core.Bool.{Bool}
 use borrow.Author.Needs.{needs}
+use borrow.Author.Tests.{not-true, not-false}
+use Rattle.words.specs.Tests.{_is_, fails}
+use Rattle.verdict.specs.Log.{kind, tx, begun, ended}
+use Rattle.verdict.specs.Refusal.{_at_when_}
+use Rattle.verdict.specs.Inner.Checking.{numbered}
+use Rattle.verdict.proofs.Numbers.{begun-again, begins-now, not-begun, has-ended, under-way}
+use Rattle.verdict.proofs.Noting.{by-mark}
 use Rattle.verdict.proofs.refusal.life_number.Statement.{statement}
 use Rattle.verdict.proofs.refusal.life_number.Tie as tie
 
-mul-k : tie.Need-mul-k
-mul-k c = search needs
+-- the entry, from where it is known whether the transaction has begun
+abbrev entry : tie.After-marked → tie.Start
+entry c = c .before .before .before
 
-mul-k-2 : tie.Need-mul-k-2
-mul-k-2 c = search needs
+-- that place, from where the step is a begin, and from where it is another
+abbrev begin : tie.Then1 → tie.After-marked
+begin c = c .before .before
 
-shared-slice-read-k : tie.Need-shared-slice-read-k
-shared-slice-read-k c = search needs
+abbrev other : tie.Else1 → tie.After-marked
+other c = c .before .before
 
-mul-t : tie.Need-mul-t
-mul-t c = search needs
+is-other : (c : tie.Else1) → kind (entry (other c) .args .log .now) (entry (other c) .args .i) ≡ 1 → ⊥
+is-other c e = c .if1 .left (other c .before .step-at .ensures .kind-is ∙ e)
 
-add-t : tie.Need-add-t
-add-t c = search needs
+-- what the marks tell of the step's transaction
+by-begins : (c : tie.After-marked) {v : Bool} → c .marked .result ≡ v → begun (entry c .args .log .now) (entry c .args .i) (tx (entry c .args .log .now) (entry c .args .i)) ≡ v
+by-begins c q = by-mark (entry c .pre .2) (entry c .pre .1) (c .before .step-at .ensures .tx-is) (c .marked .ensures) q
 
-mul-t-2 : tie.Need-mul-t-2
-mul-t-2 c = search needs
+by-ends : (c : tie.After-marked2) {v : Bool} → c .marked2 .result ≡ v → let a = entry (other (c .before .before)) .args in ended (a .log .now) (a .i) (tx (a .log .now) (a .i)) ≡ v
+by-ends c q =
+    let here = other (c .before .before) in
+    by-mark (entry here .pre .3) (entry here .pre .1) (here .before .step-at .ensures .tx-is) (c .marked2 .ensures) q
 
-shared-slice-read-t : tie.Need-shared-slice-read-t
-shared-slice-read-t c = search needs
+step-at-requires : tie.Need-step-at-requires
+step-at-requires c κs = search needs
 
 marked-requires : tie.Need-marked-requires
-unfolding tx
-marked-requires c κs = c .before .before .before .pre .1
+marked-requires c κs = search needs
 
 returns : tie.Need-returns
-unfolding numbered _at_when_ fails _is_ kind tx
-returns c =
-    let a = c .before .before .before .before .before .before in
-    sym (begun-again _ _ (c .before .if1 .taken) (by-mark (a .pre .2) _ (a .pre .1) (c .before .before .marked .ensures) (c .if2 .taken)))
+unfolding numbered _at_when_ fails _is_
+returns c = sym (begun-again _ _ (sym (begin (c .before) .before .step-at .ensures .kind-is) ∙ c .before .if1 .taken) (by-begins (begin (c .before)) (c .if2 .taken)))
 
 returns-2 : tie.Need-returns-2
-unfolding numbered _at_when_ fails _is_ kind tx
-returns-2 c =
-    let a = c .before .before .before .before .before .before in
-    sym (begins-now _ _ (c .before .if1 .taken) (by-mark (a .pre .2) _ (a .pre .1) (c .before .before .marked .ensures) (c .if2 .left)))
+unfolding numbered _at_when_ fails _is_
+returns-2 c = sym (begins-now _ _ (sym (begin (c .before) .before .step-at .ensures .kind-is) ∙ c .before .if1 .taken) (by-begins (begin (c .before)) (c .if2 .left)))
 
 returns-3 : tie.Need-returns-3
-unfolding numbered _at_when_ fails _is_ kind tx
-returns-3 c =
-    let a = c .before .before .before .before .before .before in
-    sym (not-begun _ _ (c .before .if1 .left) (by-mark (a .pre .2) _ (a .pre .1) (c .before .before .marked .ensures) (not-true _ (c .if3 .taken))))
+unfolding numbered _at_when_ fails _is_
+returns-3 c = sym (not-begun _ _ (is-other (c .before)) (by-begins (other (c .before)) (not-true _ (c .if3 .taken))))
 
 marked-requires-2 : tie.Need-marked-requires-2
-unfolding tx
-marked-requires-2 c κs = c .before .before .before .before .before .before .pre .1
+marked-requires-2 c κs = search needs
 
 returns-4 : tie.Need-returns-4
-unfolding numbered _at_when_ fails _is_ kind tx
-returns-4 c =
-    let a = c .before .before .before .before .before .before .before .before in
-    sym (has-ended _ _ (c .before .before .before .if1 .left) (by-mark (a .pre .3) _ (a .pre .1) (c .before .marked2 .ensures) (c .if4 .taken)))
+unfolding numbered _at_when_ fails _is_
+returns-4 c = sym (has-ended _ _ (is-other (c .before .before .before)) (by-ends (c .before) (c .if4 .taken)))
 
 returns-5 : tie.Need-returns-5
-unfolding numbered _at_when_ fails _is_ kind tx
+unfolding numbered _at_when_ fails _is_
 returns-5 c =
-    let a = c .before .before .before .before .before .before .before .before in
-    sym (under-way _ _ (c .before .before .before .if1 .left) (by-mark (a .pre .2) _ (a .pre .1) (c .before .before .before .before .marked .ensures) (not-false _ (c .before .before .if3 .left))) (by-mark (a .pre .3) _ (a .pre .1) (c .before .marked2 .ensures) (c .if4 .left)))
+    let alive = c .before .before in
+    sym (under-way _ _ (is-other (alive .before)) (by-begins (other (alive .before)) (not-false _ (alive .if3 .left))) (by-ends (c .before) (c .if4 .left)))
 
 pub life-number-spec : {M : Type 1} → statement M
 life-number-spec =
     tie.close
     (tie.spec
-    mul-k
-    mul-k-2
-    shared-slice-read-k
-    mul-t
-    add-t
-    mul-t-2
-    shared-slice-read-t
+    step-at-requires
     marked-requires
     returns
     returns-2

@@ -1,150 +1,114 @@
 -- `note_step` meets its contract.
+use mathlib.Core.Path.{_≡_, sym, _∙_}
 use mathlib.Core.Logic.{inl, inr}
 use Prim.Native.Nat.{_≤_, _<_}
 use native.Mathlib.Omega.{arith}
+use borrow.Author.Needs.{needs}
 use Rattle.verdict.specs.Limits.{transactions, objects}
 use Rattle.verdict.specs.Log.{kind, tx, obj}
 use Rattle.verdict.proofs.WellFormed.{tx-within, object-within}
 use Rattle.verdict.proofs.Noting.{note-begin, note-end, note-write, note-none}
-use borrow.Author.Needs.{needs}
 use Rattle.verdict.proofs.refusal.note_step.Statement.{statement}
 use Rattle.verdict.proofs.refusal.note_step.Tie as tie
 
-mul-k : tie.Need-mul-k
-mul-k c = search needs
+-- the entry, from where the step is read
+abbrev entry : tie.After-index → tie.Start
+entry c = c .before .before .before
 
-mul-k-2 : tie.Need-mul-k-2
-mul-k-2 c = search needs
+-- the step is no begin; nor a write; nor a commit
+abbrev read : tie.Else1 → tie.After-index
+read c = c .before .before
 
-shared-slice-read-k : tie.Need-shared-slice-read-k
-shared-slice-read-k c = search needs
+abbrev no-begin : tie.Else2 → tie.Else1
+no-begin c = c .before .before
 
-mul-index : tie.Need-mul-index
-mul-index c = search needs
+abbrev no-write : tie.Else3 → tie.Else2
+no-write c = c .before .before
 
-add-index : tie.Need-add-index
-add-index c = search needs
+-- the transaction to mark is the step's, and within the limit
+tx-is : (c : tie.After-index) → c .index .result ≡ tx (entry c .args .log .now) (entry c .args .i)
+tx-is c = c .index .ensures ∙ c .before .step-at .ensures .tx-is
 
-mul-index-2 : tie.Need-mul-index-2
-mul-index-2 c = search needs
+tx-in : (c : tie.After-index) → tx (entry c .args .log .now) (entry c .args .i) ≤ transactions
+tx-in c = tx-within _ _ (entry c .pre .1) .1
 
-shared-slice-read-index : tie.Need-shared-slice-read-index
-shared-slice-read-index c = search needs
+mark-in : (c : tie.After-index) → c .index .result < 129
+mark-in c = omega (arith, tx-is c, tx-in c)
+
+-- .. and the object of a write
+abbrev written : tie.After-index2 → tie.After-index
+written c = read (c .before .before .before)
+
+is-write : (c : tie.After-index2) → kind (entry (written c) .args .log .now) (entry (written c) .args .i) ≡ 3
+is-write c = sym (written c .before .step-at .ensures .kind-is) ∙ c .before .if2 .taken
+
+object-is : (c : tie.After-index2) → c .index2 .result ≡ obj (entry (written c) .args .log .now) (entry (written c) .args .i)
+object-is c = c .index2 .ensures ∙ written c .before .step-at .ensures .obj-is
+
+object-in : (c : tie.After-index2) → obj (entry (written c) .args .log .now) (entry (written c) .args .i) < objects
+object-in c = object-within _ _ (entry (written c) .pre .1) (inr (is-write c))
+
+step-at-requires : tie.Need-step-at-requires
+step-at-requires c κs = search needs
 
 index-requires : tie.Need-index-requires
 index-requires c κs = search needs
 
 element-write-begins : tie.Need-element-write-begins
-unfolding kind tx obj
-element-write-begins c =
-    let a = c .before .before .before .before .before in
-    let z : tx (a .args .log .now) (a .args .i) ≤ transactions = tx-within _ _ (a .pre .1) .1 in
-    let y : tx (a .args .log .now) (a .args .i) < 129 = omega arith in
-    rw (c .before .index .ensures) y
+element-write-begins c = mark-in (c .before .before)
 
 returns : tie.Need-returns
-unfolding kind tx obj
 returns c =
-    let a = c .before .before .before .before .before in
-    rw (c .before .index .ensures) (note-begin _ _ (a .pre .2) (c .if1 .taken) (tx-within _ _ (a .pre .1) .1))
-
-mul-index-3 : tie.Need-mul-index-3
-mul-index-3 c = search needs
-
-add-index-2 : tie.Need-add-index-2
-add-index-2 c = search needs
-
-mul-index-4 : tie.Need-mul-index-4
-mul-index-4 c = search needs
-
-shared-slice-read-index-2 : tie.Need-shared-slice-read-index-2
-shared-slice-read-index-2 c = search needs
+    let here = c .before .before in
+    rw (tx-is here) (note-begin _ _ (entry here .pre .2) (sym (here .before .step-at .ensures .kind-is) ∙ c .if1 .taken) (tx-in here))
 
 index-requires-2 : tie.Need-index-requires-2
 index-requires-2 c κs = search needs
 
 mul-writes : tie.Need-mul-writes
-unfolding kind tx obj
-mul-writes c =
-    let a = c .before .before .before .before .before .before .before .before in
-    let z : tx (a .args .log .now) (a .args .i) ≤ transactions = tx-within _ _ (a .pre .1) .1 in
-    let y : obj (a .args .log .now) (a .args .i) < objects = object-within _ _ (a .pre .1) (inr (c .before .before .if2 .taken)) in
-    omega (arith, c .before .before .before .before .index .ensures, c .index2 .ensures)
+mul-writes c = search needs
 
 add-writes : tie.Need-add-writes
-unfolding kind tx obj
-add-writes c =
-    let a = c .before .before .before .before .before .before .before .before in
-    let z : tx (a .args .log .now) (a .args .i) ≤ transactions = tx-within _ _ (a .pre .1) .1 in
-    let y : obj (a .args .log .now) (a .args .i) < objects = object-within _ _ (a .pre .1) (inr (c .before .before .if2 .taken)) in
-    omega (arith, c .before .before .before .before .index .ensures, c .index2 .ensures)
+add-writes c = search needs
 
 element-write-writes : tie.Need-element-write-writes
-unfolding kind tx obj
-element-write-writes c =
-    let a = c .before .before .before .before .before .before .before .before in
-    let z : tx (a .args .log .now) (a .args .i) ≤ transactions = tx-within _ _ (a .pre .1) .1 in
-    let y : obj (a .args .log .now) (a .args .i) < objects = object-within _ _ (a .pre .1) (inr (c .before .before .if2 .taken)) in
-    omega (arith, c .before .before .before .before .index .ensures, c .index2 .ensures)
+element-write-writes c = omega (arith, tx-is (written c), tx-in (written c), object-is c, object-in c)
 
 returns-2 : tie.Need-returns-2
-unfolding kind tx obj
-returns-2 c =
-    let a = c .before .before .before .before .before .before .before .before in
-    rw (c .before .before .before .before .index .ensures, c .index2 .ensures) (note-write _ _ (a .pre .2) (c .before .before .if2 .taken) (object-within _ _ (a .pre .1) (inr (c .before .before .if2 .taken))) (tx-within _ _ (a .pre .1) .1))
+returns-2 c = rw (tx-is (written c), object-is c) (note-write _ _ (entry (written c) .pre .2) (is-write c) (object-in c) (tx-in (written c)))
 
 element-write-ends : tie.Need-element-write-ends
-unfolding kind tx obj
-element-write-ends c =
-    let a = c .before .before .before .before .before .before .before in
-    let z : tx (a .args .log .now) (a .args .i) ≤ transactions = tx-within _ _ (a .pre .1) .1 in
-    let y : tx (a .args .log .now) (a .args .i) < 129 = omega arith in
-    rw (c .before .before .before .index .ensures) y
+element-write-ends c = mark-in (read (no-begin (c .before .before)))
 
 returns-3 : tie.Need-returns-3
-unfolding kind tx obj
 returns-3 c =
-    let a = c .before .before .before .before .before .before .before in
-    rw (c .before .before .before .index .ensures) (note-end _ _ (a .pre .2) (inl (c .if3 .taken)) (tx-within _ _ (a .pre .1) .1))
+    let here = read (no-begin (c .before .before)) in
+    rw (tx-is here) (note-end _ _ (entry here .pre .2) (inl (sym (here .before .step-at .ensures .kind-is) ∙ c .if3 .taken)) (tx-in here))
 
 element-write-ends-2 : tie.Need-element-write-ends-2
-unfolding kind tx obj
-element-write-ends-2 c =
-    let a = c .before .before .before .before .before .before .before .before in
-    let z : tx (a .args .log .now) (a .args .i) ≤ transactions = tx-within _ _ (a .pre .1) .1 in
-    let y : tx (a .args .log .now) (a .args .i) < 129 = omega arith in
-    rw (c .before .before .before .before .index .ensures) y
+element-write-ends-2 c = mark-in (read (no-begin (no-write (c .before .before))))
 
 returns-4 : tie.Need-returns-4
-unfolding kind tx obj
 returns-4 c =
-    let a = c .before .before .before .before .before .before .before .before in
-    rw (c .before .before .before .before .index .ensures) (note-end _ _ (a .pre .2) (inr (c .if4 .taken)) (tx-within _ _ (a .pre .1) .1))
+    let here = read (no-begin (no-write (c .before .before))) in
+    rw (tx-is here) (note-end _ _ (entry here .pre .2) (inr (sym (here .before .step-at .ensures .kind-is) ∙ c .if4 .taken)) (tx-in here))
 
 returns-5 : tie.Need-returns-5
-unfolding kind tx obj
 returns-5 c =
-    let a = c .before .before .before .before .before .before .before .before in
-    note-none _ _ (a .pre .2) (c .before .before .before .if1 .left) (c .before .before .if2 .left) (c .before .if3 .left) (c .if4 .left)
+    let three = c .before .before in
+    let two = no-write three in
+    let one = no-begin two in
+    let is = read one .before .step-at .ensures .kind-is in
+    note-none _ _ (entry (read one) .pre .2) (λ e. one .if1 .left (is ∙ e)) (λ e. two .if2 .left (is ∙ e)) (λ e. three .if3 .left (is ∙ e)) (λ e. c .if4 .left (is ∙ e))
 
 pub note-step-spec : {M : Type 1} → statement M
 note-step-spec =
     tie.close
     (tie.spec
-    mul-k
-    mul-k-2
-    shared-slice-read-k
-    mul-index
-    add-index
-    mul-index-2
-    shared-slice-read-index
+    step-at-requires
     index-requires
     element-write-begins
     returns
-    mul-index-3
-    add-index-2
-    mul-index-4
-    shared-slice-read-index-2
     index-requires-2
     mul-writes
     add-writes

@@ -5,7 +5,7 @@ use native.Mathlib.Omega.{arith}
 use borrow.Author.Needs.{needs}
 use Rattle.words.specs.Tests.{_is_, _upto_, _and_, _or_, fails, if_then_else_}
 use Rattle.verdict.specs.Refusal.{_at_when_, object-allowed, source-allowed, range-refusal}
-use Rattle.verdict.specs.Walk.{numbered, in-range}
+use Rattle.verdict.specs.Inner.Checking.{numbered, in-range}
 use Rattle.words.proofs.Truth.{to-false, and→, →fails, upto→}
 use Rattle.verdict.proofs.Refused.{first-yes, first-no}
 use Rattle.verdict.proofs.refusal.range_number.Statement.{statement}

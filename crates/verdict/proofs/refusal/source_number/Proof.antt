@@ -1,122 +1,108 @@
 -- `source_number` meets its contract.
-use mathlib.Core.Path.{sym}
-use mathlib.Core.Logic.{inl, inr, ⊎-elim}
-use Rattle.words.specs.Tests.{_is_, fails}
-use Rattle.verdict.specs.Log.{kind, tx, obj, src}
-use Rattle.verdict.specs.Refusal.{_at_when_}
-use Rattle.verdict.specs.Walk.{numbered}
+use mathlib.Core.Path.{_≡_, sym, _∙_}
+use mathlib.Core.Bool.{Bool, true}
+use mathlib.Core.Logic.{_⊎_, inl, inr, ⊎-elim}
+use Prim.Native.Nat.{_≤_, _<_}
+use native.Mathlib.Omega.{arith}
+use borrow.Author.Needs.{needs}
 use borrow.Author.Tests.{not-true, not-false}
-use Rattle.verdict.proofs.Steps.{no-read, never-wrote, own-write-passed, source-right}
+use Rattle.words.specs.Tests.{_is_, fails}
+use Rattle.verdict.specs.Limits.{transactions, objects}
+use Rattle.verdict.specs.Log.{kind, tx, obj, src, wrote}
+use Rattle.verdict.specs.Refusal.{_at_when_}
+use Rattle.verdict.specs.Inner.Checking.{numbered}
+use Rattle.verdict.proofs.Numbers.{no-read, never-wrote, own-write-passed, source-right}
 use Rattle.verdict.proofs.WellFormed.{tx-within, object-within, source-within}
 use Rattle.verdict.proofs.Noting.{by-pair}
-use borrow.Author.Needs.{needs}
 use Rattle.verdict.proofs.refusal.source_number.Statement.{statement}
 use Rattle.verdict.proofs.refusal.source_number.Tie as tie
 
-mul-k : tie.Need-mul-k
-mul-k c = search needs
+-- the step, from where it is a read, and the entry
+abbrev read : tie.Else1 → tie.After-step-at
+read c = c .before .before
 
-mul-k-2 : tie.Need-mul-k-2
-mul-k-2 c = search needs
+abbrev entry : tie.Else1 → tie.Start
+entry c = read c .before .before
 
-shared-slice-read-k : tie.Need-shared-slice-read-k
-shared-slice-read-k c = search needs
+-- the numbers of the read
+is-read : (c : tie.Else1) → kind (entry c .args .log .now) (entry c .args .i) ≡ 2
+is-read c = sym (read c .step-at .ensures .kind-is) ∙ c .if1 .left
 
-mul-t : tie.Need-mul-t
-mul-t c = search needs
+tx-in : (c : tie.Else1) → tx (entry c .args .log .now) (entry c .args .i) ≤ transactions
+tx-in c = tx-within _ _ (entry c .pre .1) .1
 
-add-t : tie.Need-add-t
-add-t c = search needs
+object-in : (c : tie.Else1) → obj (entry c .args .log .now) (entry c .args .i) < objects
+object-in c = object-within _ _ (entry c .pre .1) (inl (is-read c))
 
-mul-t-2 : tie.Need-mul-t-2
-mul-t-2 c = search needs
+source-in : (c : tie.Else1) → src (entry c .args .log .now) (entry c .args .i) ≤ transactions
+source-in c = source-within _ _ (entry c .pre .1) (is-read c)
 
-shared-slice-read-t : tie.Need-shared-slice-read-t
-shared-slice-read-t c = search needs
+-- the source is 0, or wrote the object
+there : (c : tie.Joined2) → let a = entry (c .before) .args in (src (a .log .now) (a .i) ≡ 0) ⊎ (wrote (a .log .now) (a .i) (src (a .log .now) (a .i)) (obj (a .log .now) (a .i)) ≡ true)
+there c =
+    let here = c .before in
+    let step = read here .step-at .ensures in
+    ⊎-elim (λ w. inr (by-pair _ _ _ (entry here .pre .2) (source-in here) (object-in here) (step .src-is) (step .obj-is) (w .1 .ensures) (not-false _ (w .2 .left))))
+    (λ w. inl (sym (step .src-is) ∙ w .left)) (c .if2 .came)
 
-mul-x : tie.Need-mul-x
-mul-x c = search needs
+-- whether the reader wrote the object, and whether it names another source
+own-write : (c : tie.After-pair-marked2) {v : Bool} → c .pair-marked2 .result ≡ v → let a = entry (c .before .before .before) .args in wrote (a .log .now) (a .i) (tx (a .log .now) (a .i)) (obj (a .log .now) (a .i)) ≡ v
+own-write c q =
+    let here = c .before .before .before in
+    let step = read here .step-at .ensures in
+    by-pair _ _ _ (entry here .pre .2) (tx-in here) (object-in here) (step .tx-is) (step .obj-is) (c .pair-marked2 .ensures) q
 
-add-x : tie.Need-add-x
-add-x c = search needs
-
-mul-x-2 : tie.Need-mul-x-2
-mul-x-2 c = search needs
-
-shared-slice-read-x : tie.Need-shared-slice-read-x
-shared-slice-read-x c = search needs
-
-mul-s : tie.Need-mul-s
-mul-s c = search needs
-
-add-s : tie.Need-add-s
-add-s c = search needs
-
-mul-s-2 : tie.Need-mul-s-2
-mul-s-2 c = search needs
-
-shared-slice-read-s : tie.Need-shared-slice-read-s
-shared-slice-read-s c = search needs
+step-at-requires : tie.Need-step-at-requires
+step-at-requires c κs = search needs
 
 returns : tie.Need-returns
-unfolding numbered _at_when_ fails _is_ kind tx obj src
-returns c = sym (no-read _ _ (c .if1 .taken))
+unfolding numbered _at_when_ fails _is_
+returns c = sym (no-read _ _ (λ e. c .if1 .taken (c .before .before .step-at .ensures .kind-is ∙ e)))
 
 pair-marked-requires : tie.Need-pair-marked-requires
-unfolding kind tx obj src
 pair-marked-requires c κs =
-    let a = c .before .before .before .before .before .before .before in
-    (source-within _ _ (a .pre .1) (c .before .if1 .left), object-within _ _ (a .pre .1) (inl (c .before .if1 .left)))
+    let step = read (c .before) .step-at .ensures in
+    (omega (arith, step .src-is, source-in (c .before)), omega (arith, step .obj-is, object-in (c .before)))
 
 returns-2 : tie.Need-returns-2
-unfolding numbered _at_when_ fails _is_ kind tx obj src
+unfolding numbered _at_when_ fails _is_
 returns-2 c =
-    let a = c .before .before .before .before .before .before .before .before .before in
-    sym (never-wrote _ _ (c .before .before .before .if1 .left) (c .before .before .if2 .taken) (by-pair _ _ _ (a .pre .2) _ _ (source-within _ _ (a .pre .1) (c .before .before .before .if1 .left)) (object-within _ _ (a .pre .1) (inl (c .before .before .before .if1 .left))) (c .before .pair-marked .ensures) (not-true _ (c .if3 .taken))))
+    let here = c .before .before .before in
+    let step = read here .step-at .ensures in
+    sym (never-wrote _ _ (is-read here) (λ e. c .before .before .if2 .taken (step .src-is ∙ e)) (by-pair _ _ _ (entry here .pre .2) (source-in here) (object-in here) (step .src-is) (step .obj-is) (c .before .pair-marked .ensures) (not-true _ (c .if3 .taken))))
 
 pair-marked-requires-2 : tie.Need-pair-marked-requires-2
-unfolding kind tx obj src
 pair-marked-requires-2 c κs =
-    let a = c .before .before .before .before .before .before .before .before in
-    (tx-within _ _ (a .pre .1) .1, object-within _ _ (a .pre .1) (inl (c .before .before .if1 .left)))
+    let here = c .before .before in
+    let step = read here .step-at .ensures in
+    (omega (arith, step .tx-is, tx-in here), omega (arith, step .obj-is, object-in here))
 
 returns-3 : tie.Need-returns-3
-unfolding numbered _at_when_ fails _is_ kind tx obj src
+unfolding numbered _at_when_ fails _is_
 returns-3 c =
-    let a = c .before .before .before .before .before .before .before .before .before .before in
-    sym (own-write-passed _ _ (c .before .before .before .before .if1 .left) (⊎-elim (λ w. inr (by-pair _ _ _ (a .pre .2) _ _ (source-within _ _ (a .pre .1) (c .before .before .before .before .if1 .left)) (object-within _ _ (a .pre .1) (inl (c .before .before .before .before .if1 .left))) (w .1 .ensures) (not-false _ (w .2 .left)))) (λ w. inl (w .left)) (c .before .before .before .if2 .came)) (c .before .before .if4 .taken) (by-pair _ _ _ (a .pre .2) _ _ (tx-within _ _ (a .pre .1) .1) (object-within _ _ (a .pre .1) (inl (c .before .before .before .before .if1 .left))) (c .before .pair-marked2 .ensures) (c .if5 .taken)))
+    let another = c .before .before in
+    let here = another .before .before in
+    let step = read here .step-at .ensures in
+    sym (own-write-passed _ _ (is-read here) (there (another .before)) (λ e. another .if4 .taken (step .src-is ∙ e ∙ sym (step .tx-is))) (own-write (c .before) (c .if5 .taken)))
 
 returns-4 : tie.Need-returns-4
-unfolding numbered _at_when_ fails _is_ kind tx obj src
+unfolding numbered _at_when_ fails _is_
 returns-4 c =
-    let a = c .before .before .before .before .before .before .before .before .before .before in
-    sym (source-right _ _ (c .before .before .before .before .if1 .left) (⊎-elim (λ w. inr (by-pair _ _ _ (a .pre .2) _ _ (source-within _ _ (a .pre .1) (c .before .before .before .before .if1 .left)) (object-within _ _ (a .pre .1) (inl (c .before .before .before .before .if1 .left))) (w .1 .ensures) (not-false _ (w .2 .left)))) (λ w. inl (w .left)) (c .before .before .before .if2 .came)) (inr (by-pair _ _ _ (a .pre .2) _ _ (tx-within _ _ (a .pre .1) .1) (object-within _ _ (a .pre .1) (inl (c .before .before .before .before .if1 .left))) (c .before .pair-marked2 .ensures) (c .if5 .left))))
+    let joined = c .before .before .before in
+    sym (source-right _ _ (is-read (joined .before)) (there joined) (inr (own-write (c .before) (c .if5 .left))))
 
 returns-5 : tie.Need-returns-5
-unfolding numbered _at_when_ fails _is_ kind tx obj src
+unfolding numbered _at_when_ fails _is_
 returns-5 c =
-    let a = c .before .before .before .before .before .before .before .before in
-    sym (source-right _ _ (c .before .before .if1 .left) (⊎-elim (λ w. inr (by-pair _ _ _ (a .pre .2) _ _ (source-within _ _ (a .pre .1) (c .before .before .if1 .left)) (object-within _ _ (a .pre .1) (inl (c .before .before .if1 .left))) (w .1 .ensures) (not-false _ (w .2 .left)))) (λ w. inl (w .left)) (c .before .if2 .came)) (inl (c .if4 .left)))
+    let here = c .before .before in
+    let step = read here .step-at .ensures in
+    sym (source-right _ _ (is-read here) (there (c .before)) (inl (sym (step .src-is) ∙ c .if4 .left ∙ step .tx-is)))
 
 pub source-number-spec : {M : Type 1} → statement M
 source-number-spec =
     tie.close
     (tie.spec
-    mul-k
-    mul-k-2
-    shared-slice-read-k
-    mul-t
-    add-t
-    mul-t-2
-    shared-slice-read-t
-    mul-x
-    add-x
-    mul-x-2
-    shared-slice-read-x
-    mul-s
-    add-s
-    mul-s-2
-    shared-slice-read-s
+    step-at-requires
     returns
     pair-marked-requires
     returns-2

@@ -1,14 +1,47 @@
 -- `find_order` meets its contract.
 use mathlib.Core.Path.{_≡_}
-use mathlib.Core.List.{List}
-use Prim.Native.Nat.{ℕ, _+_}
+use Prim.Native.Nat.{ℕ, _+_, _≤_}
 use native.Mathlib.Omega.{arith}
 use borrow.Author.Needs.{needs}
 use borrow.Author.Tests.{not-true, not-false}
 use lib.ListN.{length}
+use Rattle.verdict.specs.Limits.{most-searched}
+use Rattle.verdict.proofs.Memberless.{holds-none}
 use Rattle.verdict.proofs.Searching.{few-enough, nothing-placed, order-found, none-found}
 use Rattle.verdict.proofs.search.find_order.Statement.{statement}
 use Rattle.verdict.proofs.search.find_order.Tie as tie
+
+-- the entry, the marks and the tables, each from where the next is made
+abbrev entry : tie.After-committed-marks → tie.Start
+entry c = c .before .before
+
+abbrev marked : tie.After-need-table → tie.After-committed-marks
+marked c = c .before .before
+
+abbrev need-known : tie.After-write-table → tie.After-need-table
+need-known c = c .before .before
+
+abbrev writes-known : tie.After-count-marks → tie.After-write-table
+writes-known c = c .before .before
+
+abbrev counted : tie.After-writes → tie.After-count-marks
+counted c = c .before .before
+
+-- the marks and the entry, from where the marks are counted
+abbrev marks-of : tie.After-count-marks → tie.After-committed-marks
+marks-of c = marked (need-known (writes-known c))
+
+-- no more are left than the search takes
+few : (c : tie.After-count-marks) → c .count-marks .result ≤ most-searched
+few c =
+    let m = marks-of c in
+    let q = entry m .pre in
+    let h = few-enough (entry m .args .log .now) (m .committed-marks .result) (q .0) (q .2) (m .committed-marks .ensures) in
+    omega (arith, h, c .count-marks .ensures)
+
+-- the order has room for all that the search takes
+room : (c : tie.After-order) → length (c .before .before .place .result .order) ≡ most-searched
+room c = search needs
 
 committed-marks-requires : tie.Need-committed-marks-requires
 committed-marks-requires c κs = search needs
@@ -24,48 +57,35 @@ count-marks-requires c κs = search needs
 
 place-requires : tie.Need-place-requires
 place-requires c κs =
-    let a = c .before .before .before .before .before .before .before .before .before .before .before in
-    let log : List ℕ = a .args .log .now in
-    let q = a .pre in
-    let e = c .before .before .count-marks .ensures in
-    let m = c .before .before .before .before .before .before .before .before .committed-marks .ensures in
-    let few = few-enough log (c .before .before .before .before .before .before .before .before .committed-marks .result) (q .0) (q .2) m in
-    (q .0, q .1, c .before .before .before .before .before .before .need-table .ensures, c .before .before .before .before .write-table .ensures, omega (arith, e, few), e, nothing-placed log _ m)
+    let k = counted c in
+    let w = writes-known k in
+    let m = marks-of k in
+    let q = entry m .pre in
+    let h = few k in
+    (q .0, q .1, need-known w .need-table .ensures, w .write-table .ensures, omega (arith, h), k .count-marks .ensures, nothing-placed _ _ (m .committed-marks .ensures))
+
+without-members-requires : tie.Need-without-members-requires
+without-members-requires c κs = search needs
 
 returns : tie.Need-returns
 returns c =
-    let a = c .before .before .before .before .before .before .before .before .before .before .before .before .before in
-    let log : List ℕ = a .args .log .now in
-    let q = a .pre in
-    let e = c .before .before .before .before .count-marks .ensures in
-    let m = c .before .before .before .before .before .before .before .before .before .before .committed-marks .ensures in
-    let few = few-enough log (c .before .before .before .before .before .before .before .before .before .before .committed-marks .result) (q .0) (q .2) m in
-    none-found log _ _ _ (q .1) (rw (not-true (c .before .place .result .found) (c .if1 .taken)) at (c .before .place .ensures)) (q .3)
+    let p = c .before .before in
+    let q = entry (marks-of (counted (p .before))) .pre in
+    holds-none (none-found _ _ _ (q .1) (rw (not-true (p .place .result .found) (c .before .if1 .taken)) at (p .place .ensures))) (c .without-members .ensures)
 
-put-order-requires : tie.Need-put-order-requires
-put-order-requires c κs =
-    let a = c .before .before .before .before .before .before .before .before .before .before .before .before .before .before .before in
-    let log : List ℕ = a .args .log .now in
-    let q = a .pre in
-    let e = c .before .before .before .before .before .before .count-marks .ensures in
-    let m = c .before .before .before .before .before .before .before .before .before .before .before .before .committed-marks .ensures in
-    let few = few-enough log (c .before .before .before .before .before .before .before .before .before .before .before .before .committed-marks .result) (q .0) (q .2) m in
-    (omega (arith, e, few), q .3)
-
-same-length : tie.Need-same-length
-same-length c = search needs
+list-of-requires : tie.Need-list-of-requires
+list-of-requires c κs = few (counted (c .before .before .before))
 
 returns-2 : tie.Need-returns-2
 returns-2 c =
-    let a = c .before .before .before .before .before .before .before .before .before .before .before .before .before .before .before .before .before .before in
-    let log : List ℕ = a .args .log .now in
-    let q = a .pre in
-    let e = c .before .before .before .before .before .before .before .before .before .count-marks .ensures in
-    let m = c .before .before .before .before .before .before .before .before .before .before .before .before .before .before .before .committed-marks .ensures in
-    let few = few-enough log (c .before .before .before .before .before .before .before .before .before .before .before .before .before .before .before .committed-marks .result) (q .0) (q .2) m in
-    let size : length (c .before .before .before .before .before .before .place .result .order) ≡ 8 = search needs in
-    let z : 0 + c .before .before .before .before .before .before .before .before .before .count-marks .result ≡ c .before .before .before .before .before .before .before .before .before .count-marks .result = omega arith in
-    order-found log _ _ _ (omega (arith, e, few, size)) (rw (z, not-false (c .before .before .before .before .before .before .place .result .found) (c .before .before .before .before .before .if1 .left)) at (c .before .before .before .before .before .before .place .ensures)) (c .before .before .put-order .ensures)
+    let e = c .before .before in
+    let p = e .before in
+    let k = counted (p .before) in
+    let n : ℕ = k .count-marks .result in
+    let h = few k in
+    let size = room (c .before) in
+    let z : 0 + n ≡ n = omega arith in
+    order-found _ n (p .place .result .order) _ (omega (arith, h, size)) (rw (z, not-false (p .place .result .found) (e .if1 .left)) at (p .place .ensures)) (c .list-of .ensures)
 
 pub find-order-spec : {M : Type 1} → statement M
 find-order-spec =
@@ -76,7 +96,7 @@ find-order-spec =
     write-table-requires
     count-marks-requires
     place-requires
+    without-members-requires
     returns
-    put-order-requires
-    same-length
+    list-of-requires
     returns-2)

@@ -2,22 +2,27 @@
 use mathlib.Core.Path.{_≡_, refl, sym, ap, _∙_}
 use mathlib.Core.Bool.{true}
 use mathlib.Core.Logic.{⊎-elim}
-use Prim.Native.Nat.{ℕ, suc, _+_, _-_, _*_, _≤_}
+use Prim.Native.Nat.{ℕ, _+_, _-_, _*_, _≤_}
 use native.Mathlib.Omega.{arith}
 use borrow.Author.Needs.{needs}
 use lib.ListN.{getD}
 use Rattle.words.specs.Tests.{every}
 use Rattle.verdict.specs.Limits.{transactions, objects}
-use Rattle.verdict.specs.Placing.{allows, need}
-use Rattle.words.proofs.Truth.{not-both, to-false, →and, →or-left, →or-right, or-false, →is, →isnt, every→, every-next}
+use Rattle.verdict.specs.Inner.Placing.{allows}
+use Rattle.words.proofs.Truth.{not-both, to-false, →and, every→, every-next}
+use Rattle.verdict.proofs.Loosely.{allows-any, allows-it, allows-not}
 use Rattle.verdict.proofs.search.fits.Statement.{statement}
 use Rattle.verdict.proofs.search.fits.Tie as tie
 
 abbrev Inv-loop : tie.InvT-loop
-Inv-loop need last t row x₀ x = (x ≤ 64) × (row ≡ t * objects) × (t ≤ transactions) × (every x (λ y. allows (getD need (t * objects + y) 0) (getD last y 0)) ≡ true)
+Inv-loop need last t row x₀ x = (x ≤ objects) × (row ≡ t * objects) × (t ≤ transactions) × (every x (λ y. allows (getD need (t * objects + y) 0) (getD last y 0)) ≡ true)
 
 abbrev μ-loop : tie.MeasureT-loop
-μ-loop need last t row x₀ x = 64 - x
+μ-loop need last t row x₀ x = objects - x
+
+-- the turn, from where its need and its last writer are read
+abbrev turn : tie.After-v Inv-loop μ-loop → tie.At-loop Inv-loop μ-loop
+turn c = c .before .before .before
 
 index-requires : tie.Need-index-requires Inv-loop μ-loop
 index-requires c κs = search needs
@@ -48,13 +53,10 @@ sub-if2 : tie.Need-sub-if2 Inv-loop μ-loop
 sub-if2 c = omega arith
 
 returns : tie.Need-returns Inv-loop μ-loop
-unfolding allows
 returns c =
-    let at = c .before .before .before .before .before in
-    let a = at .before .before .args in
-    let n : getD (a .need .now) (a .t * objects + at .loop .x) 0 ≡ 0 → ⊥ = rw (at .loop .inv .1) at (c .before .if1 .taken) in
-    let m : getD (a .need .now) (a .t * objects + at .loop .x) 0 - 1 ≡ getD (a .last .now) (at .loop .x) 0 → ⊥ = rw (at .loop .inv .1) at (c .if2 .taken) in
-    sym (to-false _ (λ h. not-both (every→ _ h (at .loop .x) (omega arith)) (or-false (→isnt n) ∙ →isnt (λ (k : getD (a .need .now) (a .t * objects + at .loop .x) 0 ≡ suc (getD (a .last .now) (at .loop .x) 0)). m (omega arith)))))
+    let at = turn (c .before .before) in
+    let row = at .loop .inv .1 in
+    sym (to-false _ (λ h. not-both (every→ _ h (at .loop .x) (omega arith)) (allows-not _ (rw row at (c .before .if1 .taken)) (rw row at (c .if2 .taken)))))
 
 add-x : tie.Need-add-x Inv-loop μ-loop
 add-x c = omega arith
@@ -63,16 +65,13 @@ loop-less : tie.Need-loop-less Inv-loop μ-loop
 loop-less c = omega arith
 
 loop-again : tie.Need-loop-again Inv-loop μ-loop
-unfolding allows
 loop-again c =
-    let at = c .before .before .before .before in
-    let a = at .before .before .args in (
+    let inv = turn (c .before) .loop .inv in (
       omega arith,
-      at .loop .inv .1,
-      at .loop .inv .2,
-      every-next _ _ ∙ →and (at .loop .inv .3)
-          (⊎-elim (λ w. let n : getD (a .need .now) (a .t * objects + at .loop .x) 0 ≡ 0 → ⊥ = rw (at .loop .inv .1) at (w .0 .taken) in let m : getD (a .need .now) (a .t * objects + at .loop .x) 0 - 1 ≡ getD (a .last .now) (at .loop .x) 0 = rw (at .loop .inv .1) at (w .1 .left) in →or-right _ (→is (omega arith)))
-          (λ w. →or-left _ (→is (rw (at .loop .inv .1) at (w .left)))) (c .if1 .came)),
+      inv .1,
+      inv .2,
+      every-next _ _ ∙ →and (inv .3)
+          (⊎-elim (λ w. allows-it _ (rw (inv .1) at (w .0 .taken)) (rw (inv .1) at (w .1 .left))) (λ w. allows-any _ (rw (inv .1) at (w .left))) (c .if1 .came)),
     )
 
 returns-2 : tie.Need-returns-2 Inv-loop μ-loop

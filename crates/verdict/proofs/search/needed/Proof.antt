@@ -1,49 +1,50 @@
 -- `needed` meets its contract.
-use mathlib.Core.Path.{_≡_, refl, sym, ap, _∙_}
+use mathlib.Core.Path.{_≡_, refl, sym, _∙_}
 use mathlib.Core.Logic.{⊎-elim}
 use mathlib.Core.List.{List}
 use Prim.Native.Nat.{ℕ, _-_, _/_, _≤_}
 use native.Mathlib.Omega.{arith}
 use lib.ListN.{length}
-use Rattle.verdict.specs.Log.{steps, src}
-use Rattle.verdict.specs.Refusal.{taken, log-refusal}
-use Rattle.verdict.specs.Placing.{needing, need}
+use Rattle.verdict.specs.Log.{steps}
+use Rattle.verdict.specs.Refusal.{log-refusal}
+use Rattle.verdict.specs.Inner.Placing.{need}
+use Rattle.verdict.specs.declared.answers.Checked.the-variants.{Passed}
 use Rattle.verdict.proofs.WellFormed.{well-formed}
-use Rattle.verdict.proofs.Loosely.{need-more, need-same, asked}
+use Rattle.verdict.proofs.Loosely.{need-more, need-same, source-range}
 use Rattle.verdict.proofs.search.needed.Statement.{statement}
 use Rattle.verdict.proofs.search.needed.Tie as tie
 
 abbrev Inv-loop : tie.InvT-loop
-Inv-loop log t x n e₀ i₀ e i = (n ≡ length log / 4) × (i ≤ n) × (log-refusal log ≡ taken) × (e ≡ need log t x i)
+Inv-loop log t x n e₀ i₀ e i = (n ≡ length log / 4) × (i ≤ n) × (log-refusal log ≡ Passed) × (e ≡ need log t x i)
 
 abbrev μ-loop : tie.MeasureT-loop
 μ-loop log t x n e₀ i₀ e i = n - i
+
+-- the entry, from the loop; and the turn, from behind the question
+abbrev entry : tie.At-loop Inv-loop μ-loop → tie.Start Inv-loop μ-loop
+entry c = c .before .before
+
+abbrev turn : tie.After-needs-source Inv-loop μ-loop → tie.At-loop Inv-loop μ-loop
+turn c = c .before .before
 
 loop-holds : tie.Need-loop-holds Inv-loop μ-loop
 unfolding need
 loop-holds c = (refl, omega arith, c .before .pre, refl)
 
-asks-for-requires : tie.Need-asks-for-requires Inv-loop μ-loop
-asks-for-requires c κs = omega arith
+needs-source-requires : tie.Need-needs-source-requires Inv-loop μ-loop
+needs-source-requires c κs = omega arith
 
-mul-with-source : tie.Need-mul-with-source Inv-loop μ-loop
-mul-with-source c = omega arith
-
-add-with-source : tie.Need-add-with-source Inv-loop μ-loop
-add-with-source c = omega arith
-
-mul-with-source-2 : tie.Need-mul-with-source-2 Inv-loop μ-loop
-mul-with-source-2 c = omega arith
-
-shared-slice-read-with-source : tie.Need-shared-slice-read-with-source Inv-loop μ-loop
-shared-slice-read-with-source c = omega arith
+step-at-requires : tie.Need-step-at-requires Inv-loop μ-loop
+step-at-requires c κs = omega arith
 
 with-source-requires : tie.Need-with-source-requires Inv-loop μ-loop
-unfolding src steps
+unfolding steps
 with-source-requires c κs =
-    let at = c .before .before .before .before in
-    let log : List ℕ = at .before .before .args .log .now in
-    asked log (well-formed log (at .loop .inv .2)) _ _ (at .loop .i) (omega arith) (sym (c .before .before .asks-for .ensures) ∙ c .before .if1 .taken)
+    let asked = c .before .before in
+    let at = turn asked in
+    let log : List ℕ = entry at .args .log .now in
+    let h = source-range log (well-formed log (at .loop .inv .2)) _ _ (at .loop .i) (omega arith) (sym (asked .needs-source .ensures) ∙ c .before .if1 .taken) in
+    omega (arith, h, c .step-at .ensures .src-is)
 
 add-i : tie.Need-add-i Inv-loop μ-loop
 add-i c = omega arith
@@ -52,19 +53,24 @@ loop-less : tie.Need-loop-less Inv-loop μ-loop
 loop-less c = omega arith
 
 loop-again : tie.Need-loop-again Inv-loop μ-loop
-unfolding src
 loop-again c =
-    let at = c .before .before .before in (
+    let at = turn (c .before) in
+    let inv = at .loop .inv in
+    let says = sym (c .before .needs-source .ensures) in (
       refl,
       omega arith,
-      at .loop .inv .2,
-      ⊎-elim (λ w. w .3 ∙ w .2 .ensures ∙ ap (λ (e : ℕ). needing e (src (at .before .before .args .log .now) (at .loop .i))) (at .loop .inv .3) ∙ sym (need-more _ _ _ (at .loop .i) (sym (c .before .asks-for .ensures) ∙ w .0 .taken)))
-          (λ w. w .1 ∙ at .loop .inv .3 ∙ sym (need-same _ _ _ (at .loop .i) (sym (c .before .asks-for .ensures) ∙ w .0 .left))) (c .if1 .came),
+      inv .2,
+      ⊎-elim
+          (λ w. w .3 ∙ w .2 .ensures ∙ rw (inv .3, w .1 .ensures .src-is) (sym (need-more _ _ _ (at .loop .i) (says ∙ w .0 .taken))))
+          (λ w. w .1 ∙ inv .3 ∙ sym (need-same _ _ _ (at .loop .i) (says ∙ w .0 .left))) (c .if1 .came),
     )
 
 returns : tie.Need-returns Inv-loop μ-loop
 unfolding steps
-returns c = let e : c .before .loop .i ≡ length (c .before .before .before .args .log .now) / 4 = omega arith in rw (← e) (c .before .loop .inv .3)
+returns c =
+    let at = c .before in
+    let e : at .loop .i ≡ length (entry at .args .log .now) / 4 = omega arith in
+    rw (← e) (at .loop .inv .3)
 
 pub needed-spec : {M : Type 1} → statement M
 needed-spec =
@@ -73,11 +79,8 @@ needed-spec =
     Inv-loop
     μ-loop
     loop-holds
-    asks-for-requires
-    mul-with-source
-    add-with-source
-    mul-with-source-2
-    shared-slice-read-with-source
+    needs-source-requires
+    step-at-requires
     with-source-requires
     add-i
     loop-less

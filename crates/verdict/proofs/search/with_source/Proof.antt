@@ -4,7 +4,7 @@ use Prim.Native.Nat.{suc}
 use native.Mathlib.Omega.{arith}
 use native.Mathlib.Numerals.{add-one}
 use borrow.Author.Needs.{needs}
-use Rattle.verdict.specs.Placing.{barred, needing}
+use Rattle.verdict.specs.Inner.Placing.{barred, needing}
 use Rattle.words.proofs.Truth.{→is, →isnt, if-true, if-false}
 use Rattle.verdict.proofs.search.with_source.Statement.{statement}
 use Rattle.verdict.proofs.search.with_source.Tie as tie

@@ -2,18 +2,18 @@
 use mathlib.Core.Path.{_≡_, refl, sym, _∙_}
 use mathlib.Core.Bool.{false}
 use mathlib.Core.Logic.{⊎-elim}
-use mathlib.Core.List.{List}
-use Prim.Native.Nat.{ℕ, _-_, _/_, _≤_}
+use Prim.Native.Nat.{_-_, _/_, _≤_}
 use native.Mathlib.Omega.{arith}
 use borrow.Author.Needs.{needs}
 use lib.ListN.{length, getD}
 use Rattle.words.specs.Tests.{_is_, _and_, fails, some}
+use Rattle.words.proofs.Truth.{none→, →none, none-next}
 use Rattle.verdict.specs.Limits.{transactions}
-use Rattle.verdict.specs.Log.{steps, kind, tx, begins, commits}
-use Rattle.verdict.specs.Refusal.{taken, log-refusal}
+use Rattle.verdict.specs.Log.{steps}
+use Rattle.verdict.specs.Refusal.{log-refusal}
 use Rattle.verdict.specs.Snapshot.{clash, wrong-commit}
-use Rattle.verdict.specs.Walk.{FirstSteps}
-use Rattle.words.proofs.Truth.{and→, none→, →none, none-next}
+use Rattle.verdict.specs.Inner.Marks.{FirstSteps}
+use Rattle.verdict.specs.declared.answers.Checked.the-variants.{Passed}
 use Rattle.verdict.proofs.WellFormed.{well-formed}
 use Rattle.verdict.proofs.SnapshotLaws.{no-commit, shared-object, no-shared-object, clash-found, no-clash}
 use Rattle.verdict.proofs.Marks.{marked-both}
@@ -33,69 +33,55 @@ abbrev μ-loop : tie.MeasureT-loop
 μ-loop log begins commits n j p₀ x₀ t mine p x = 129 - p
 
 abbrev Inv-search : tie.InvT-search
-Inv-search log begins commits n j₀ p₀ x₀ j p x = (n ≡ length log / 4) × (j ≤ n) × (log-refusal log ≡ taken) × FirstSteps log 1 begins × FirstSteps log 4 commits × (some j (wrong-commit transactions log) ≡ false)
+Inv-search log begins commits n j₀ p₀ x₀ j p x = (n ≡ length log / 4) × (j ≤ n) × (log-refusal log ≡ Passed) × FirstSteps log 1 begins × FirstSteps log 4 commits × (some j (wrong-commit transactions log) ≡ false)
 
 abbrev μ-search : tie.MeasureT-search
 μ-search log begins commits n j₀ p₀ x₀ j p x = n - j
 
-first-steps-requires :
-    tie.Need-first-steps-requires Inv-loop2 μ-loop2 Inv-loop μ-loop Inv-search μ-search
+-- the head of the search, from where a step is read
+abbrev head : tie.After-struct-known Inv-loop2 μ-loop2 Inv-loop μ-loop Inv-search μ-search → tie.At-search Inv-loop2 μ-loop2 Inv-loop μ-loop Inv-search μ-search
+head c = c .before .before .before
+
+-- a step that commits, from where partners are tried
+abbrev committing : tie.At-loop Inv-loop2 μ-loop2 Inv-loop μ-loop Inv-search μ-search → tie.Then1 Inv-loop2 μ-loop2 Inv-loop μ-loop Inv-search μ-search
+committing c = c .before .before
+
+-- a partner, from where objects are tried
+abbrev partner : tie.At-loop2 Inv-loop2 μ-loop2 Inv-loop μ-loop Inv-search μ-search → tie.At-loop Inv-loop2 μ-loop2 Inv-loop μ-loop Inv-search μ-search
+partner c = c .before .before .before .before .before
+
+first-steps-requires : tie.Need-first-steps-requires Inv-loop2 μ-loop2 Inv-loop μ-loop Inv-search μ-search
 first-steps-requires c κs = search needs
 
-first-steps-requires-2 :
-    tie.Need-first-steps-requires-2 Inv-loop2 μ-loop2 Inv-loop μ-loop Inv-search μ-search
+first-steps-requires-2 : tie.Need-first-steps-requires-2 Inv-loop2 μ-loop2 Inv-loop μ-loop Inv-search μ-search
 first-steps-requires-2 c κs = search needs
 
 search-holds : tie.Need-search-holds Inv-loop2 μ-loop2 Inv-loop μ-loop Inv-search μ-search
 unfolding some
 search-holds c = (refl, omega arith, c .before .before .before .pre, c .before .first-steps .ensures, c .first-steps2 .ensures, refl)
 
-mul-if1 : tie.Need-mul-if1 Inv-loop2 μ-loop2 Inv-loop μ-loop Inv-search μ-search
-mul-if1 c = omega arith
-
-mul-if1-2 : tie.Need-mul-if1-2 Inv-loop2 μ-loop2 Inv-loop μ-loop Inv-search μ-search
-mul-if1-2 c = omega arith
-
-shared-slice-read-if1 :
-    tie.Need-shared-slice-read-if1 Inv-loop2 μ-loop2 Inv-loop μ-loop Inv-search μ-search
-shared-slice-read-if1 c = omega arith
-
-mul-t : tie.Need-mul-t Inv-loop2 μ-loop2 Inv-loop μ-loop Inv-search μ-search
-mul-t c = omega arith
-
-add-t : tie.Need-add-t Inv-loop2 μ-loop2 Inv-loop μ-loop Inv-search μ-search
-add-t c = omega arith
-
-mul-t-2 : tie.Need-mul-t-2 Inv-loop2 μ-loop2 Inv-loop μ-loop Inv-search μ-search
-mul-t-2 c = omega arith
-
-shared-slice-read-t :
-    tie.Need-shared-slice-read-t Inv-loop2 μ-loop2 Inv-loop μ-loop Inv-search μ-search
-shared-slice-read-t c = omega arith
+step-at-requires : tie.Need-step-at-requires Inv-loop2 μ-loop2 Inv-loop μ-loop Inv-search μ-search
+step-at-requires c κs = omega arith
 
 written-requires : tie.Need-written-requires Inv-loop2 μ-loop2 Inv-loop μ-loop Inv-search μ-search
-written-requires c κs = c .before .before .before .before .search .inv .2
+written-requires c κs = head (c .before) .search .inv .2
 
 loop-holds : tie.Need-loop-holds Inv-loop2 μ-loop2 Inv-loop μ-loop Inv-search μ-search
 unfolding some
 loop-holds c = (omega arith, refl)
 
-partner-marks-requires :
-    tie.Need-partner-marks-requires Inv-loop2 μ-loop2 Inv-loop μ-loop Inv-search μ-search
-unfolding steps kind tx
+partner-marks-requires : tie.Need-partner-marks-requires Inv-loop2 μ-loop2 Inv-loop μ-loop Inv-search μ-search
+unfolding steps
 partner-marks-requires c κs =
-    let at = c .before .before .before .before .before .before .before .before .before .search in
-    let log : List ℕ = c .before .before .before .before .before .before .before .before .before .before .before .before .before .args .log .now in
-    let j : ℕ = at .j in
-    let t : tx log j ≤ transactions = well-formed log (at .inv .2) .range j (omega arith) .1 in
-    (at .inv .2, at .inv .3, at .inv .4, omega arith, t, omega arith)
+    let here = committing (c .before .before .before) .before in
+    let search = head here .search in
+    (search .inv .2, search .inv .3, search .inv .4, omega arith, omega (arith, here .before .step-at .ensures .tx-is, well-formed _ (search .inv .2) .range (search .j) (omega arith) .1), omega arith)
 
 loop2-holds : tie.Need-loop2-holds Inv-loop2 μ-loop2 Inv-loop μ-loop Inv-search μ-search
 unfolding some
 loop2-holds c = (omega arith, refl)
 
-both-write-requires :
-    tie.Need-both-write-requires Inv-loop2 μ-loop2 Inv-loop μ-loop Inv-search μ-search
+both-write-requires : tie.Need-both-write-requires Inv-loop2 μ-loop2 Inv-loop μ-loop Inv-search μ-search
 both-write-requires c κs = omega arith
 
 add-x : tie.Need-add-x Inv-loop2 μ-loop2 Inv-loop μ-loop Inv-search μ-search
@@ -114,15 +100,14 @@ loop-less : tie.Need-loop-less Inv-loop2 μ-loop2 Inv-loop μ-loop Inv-search μ
 loop-less c = omega arith
 
 loop-again : tie.Need-loop-again Inv-loop2 μ-loop2 Inv-loop μ-loop Inv-search μ-search
-unfolding tx
 loop-again c =
-    let at = c .before .before .before .before .before .before .before .before .before .before .before .before .search in
-    let log : List ℕ = c .before .before .before .before .before .before .before .before .before .before .before .before .before .before .before .before .args .log .now in
-    let j : ℕ = at .j in
-    let e : c .before .loop2 .x ≡ 64 = omega arith in (
+    let tried = c .before in
+    let part = partner tried in
+    let here = committing part .before in
+    let e : tried .loop2 .x ≡ 64 = omega arith in (
       omega arith,
-      none-next _ _ (c .before .before .before .before .before .before .loop .inv .1) (no-shared-object log j _ (well-formed log (at .inv .2))
-          (λ y h. sym (marked-both (c .before .before .before .before .before .before .before .written .ensures) (c .before .before .partner-marks .ensures) y h) ∙ none→ _ (rw e at (c .before .loop2 .inv .1)) y h)),
+      none-next _ _ (part .loop .inv .1) (no-shared-object _ (head here .search .j) _ (here .before .step-at .ensures .tx-is) (well-formed _ (head here .search .inv .2))
+          (λ y h. sym (marked-both (part .before .written .ensures) (tried .before .partner-marks .ensures) y h) ∙ none→ _ (rw e at (tried .loop2 .inv .1)) y h)),
     )
 
 add-j : tie.Need-add-j Inv-loop2 μ-loop2 Inv-loop μ-loop Inv-search μ-search
@@ -132,18 +117,18 @@ search-less : tie.Need-search-less Inv-loop2 μ-loop2 Inv-loop μ-loop Inv-searc
 search-less c = omega arith
 
 search-again : tie.Need-search-again Inv-loop2 μ-loop2 Inv-loop μ-loop Inv-search μ-search
-unfolding wrong-commit kind
+unfolding wrong-commit
 search-again c =
-    let at = c .before .before .before .search in
-    let log : List ℕ = c .before .before .before .before .before .before .before .args .log .now in
-    let j : ℕ = at .j in (
+    let search = head (c .before) .search in
+    let step = c .before .before .step-at .ensures in (
       refl,
       omega arith,
-      at .inv .2,
-      at .inv .3,
-      at .inv .4,
-      none-next _ _ (at .inv .5)
-          (⊎-elim (λ w. let e : w .3 .p ≡ 129 = omega (arith, w .3 .inv .0, w .4 .left) in rw e at (w .3 .inv .1)) (λ w. →none _ (λ p h. no-commit log j p (w .0 .left))) (c .if1 .came)),
+      search .inv .2,
+      search .inv .3,
+      search .inv .4,
+      none-next _ _ (search .inv .5)
+          (⊎-elim (λ w. let e : w .2 .p ≡ 129 = omega (arith, w .2 .inv .0, w .3 .left) in rw e at (w .2 .inv .1))
+          (λ w. →none _ (λ p h. no-commit _ (search .j) p (λ e. w .0 .left (step .kind-is ∙ e)))) (c .if1 .came)),
     )
 
 returns : tie.Need-returns Inv-loop2 μ-loop2 Inv-loop μ-loop Inv-search μ-search
@@ -151,16 +136,15 @@ unfolding steps
 returns c = no-clash _ _ (c .before .search .inv .5) _ (omega arith)
 
 returns-2 : tie.Need-returns-2 Inv-loop2 μ-loop2 Inv-loop μ-loop Inv-search μ-search
-unfolding steps kind tx
+unfolding steps
 returns-2 c =
-    let at = c .before .before .before .before .before .before .before .before .before .before .before .before .before .before .before .before .search in
-    let log : List ℕ = c .before .before .before .before .before .before .before .before .before .before .before .before .before .before .before .before .before .before .before .before .args .log .now in
-    let j : ℕ = at .j in
-    let p : ℕ = c .before .before .before .before .before .before .before .before .before .before .loop .p in
-    let x : ℕ = c .before .before .before .before .before .loop2 .x in
-    let r = and→ (sym (marked-both (c .before .before .before .before .before .before .before .before .before .before .before .written .ensures) (c .before .before .before .before .before .before .partner-marks .ensures) x (omega arith)) ∙ sym (c .before .both-write .ensures) ∙ c .if2 .taken) in
-    let q = and→ (r .1) in
-    clash-found log j (at .inv .5) p (omega arith) (omega arith) (c .before .before .before .before .before .before .before .before .before .before .loop .inv .1) (shared-object log j p x (c .before .before .before .before .before .before .before .before .before .before .before .before .before .if1 .taken) (r .0) (q .0) (q .1))
+    let found = c .before .before .before .before .before in
+    let part = partner found in
+    let one = committing part in
+    let search = head (one .before) .search in
+    let step = one .before .before .step-at .ensures in
+    let both = sym (marked-both (part .before .written .ensures) (found .before .partner-marks .ensures) (found .loop2 .x) (omega arith)) ∙ sym (c .before .both-write .ensures) ∙ c .if2 .taken in
+    clash-found _ (search .j) (search .inv .5) (part .loop .p) (omega arith) (omega arith) (part .loop .inv .1) (shared-object _ (search .j) _ (step .tx-is) (found .loop2 .x) (sym (step .kind-is) ∙ one .if1 .taken) both)
 
 pub first-clash-spec : {M : Type 1} → statement M
 first-clash-spec =
@@ -175,13 +159,7 @@ first-clash-spec =
     first-steps-requires
     first-steps-requires-2
     search-holds
-    mul-if1
-    mul-if1-2
-    shared-slice-read-if1
-    mul-t
-    add-t
-    mul-t-2
-    shared-slice-read-t
+    step-at-requires
     written-requires
     loop-holds
     partner-marks-requires

@@ -6,14 +6,15 @@ use native.Mathlib.Omega.{arith}
 use lib.ListN.{length}
 use Rattle.words.specs.Tests.{some}
 use Rattle.verdict.specs.Log.{steps}
-use Rattle.verdict.specs.Refusal.{taken, log-refusal}
+use Rattle.verdict.specs.declared.answers.Checked.the-variants.{Passed}
+use Rattle.verdict.specs.Refusal.{log-refusal}
 use Rattle.verdict.specs.Snapshot.{wrong-read}
-use Rattle.words.proofs.Truth.{none→, lowest-none, lowest-at, none-next}
+use Rattle.words.proofs.Truth.{lowest-none, lowest-found, none-next}
 use Rattle.verdict.proofs.snapshots.first_wrong.Statement.{statement}
 use Rattle.verdict.proofs.snapshots.first_wrong.Tie as tie
 
 abbrev Inv-loop : tie.InvT-loop
-Inv-loop log n i₀ i = (n ≡ length log / 4) × (i ≤ n) × (log-refusal log ≡ taken) × (some i (wrong-read log) ≡ false)
+Inv-loop log n i₀ i = (n ≡ length log / 4) × (i ≤ n) × (log-refusal log ≡ Passed) × (some i (wrong-read log) ≡ false)
 
 abbrev μ-loop : tie.MeasureT-loop
 μ-loop log n i₀ i = n - i
@@ -28,8 +29,8 @@ is-wrong-requires c κs = (c .before .loop .inv .2, omega arith)
 returns : tie.Need-returns Inv-loop μ-loop
 unfolding steps
 returns c =
-    let at = c .before .before .before in
-    sym (lowest-at (wrong-read (at .before .before .args .log .now)) (at .loop .i) (omega arith) (sym (c .before .is-wrong .ensures) ∙ c .if1 .taken) (none→ _ (at .loop .inv .3)))
+    let loop = c .before .before .before .loop in
+    sym (lowest-found _ (loop .i) (omega arith) (sym (c .before .is-wrong .ensures) ∙ c .if1 .taken) (loop .inv .3))
 
 add-i : tie.Need-add-i Inv-loop μ-loop
 add-i c = omega arith
@@ -38,13 +39,17 @@ loop-less : tie.Need-loop-less Inv-loop μ-loop
 loop-less c = omega arith
 
 loop-again : tie.Need-loop-again Inv-loop μ-loop
-loop-again c = let at = c .before .before .before in (refl, omega arith, at .loop .inv .2, none-next _ _ (at .loop .inv .3) (sym (c .before .is-wrong .ensures) ∙ c .if1 .left))
+loop-again c =
+    let inv = c .before .before .before .loop .inv in
+    (refl, omega arith, inv .2, none-next _ _ (inv .3) (sym (c .before .is-wrong .ensures) ∙ c .if1 .left))
 
 returns-2 : tie.Need-returns-2 Inv-loop μ-loop
 unfolding steps
 returns-2 c =
-    let e : c .before .loop .i ≡ length (c .before .before .before .args .log .now) / 4 = omega arith in
-    e ∙ sym (lowest-none (wrong-read (c .before .before .before .args .log .now)) (rw e at (c .before .loop .inv .3)))
+    let loop = c .before .loop in
+    let log = c .before .before .before .args .log .now in
+    let e : loop .i ≡ length log / 4 = omega arith in
+    e ∙ sym (lowest-none (wrong-read log) (rw e at (loop .inv .3)))
 
 pub first-wrong-spec : {M : Type 1} → statement M
 first-wrong-spec =

@@ -1,8 +1,7 @@
 -- `judge_snapshot` meets its contract.
-use mathlib.Core.Path.{sym, ap}
+use mathlib.Core.Path.{sym}
 use borrow.Author.Needs.{needs}
 use Rattle.verdict.specs.Log.{steps}
-use Rattle.verdict.specs.Said.{said-snapshot}
 use Rattle.verdict.proofs.SnapshotLaws.{read-first, write-first, all-right}
 use Rattle.verdict.proofs.snapshots.judge_snapshot.Statement.{statement}
 use Rattle.verdict.proofs.snapshots.judge_snapshot.Tie as tie
@@ -14,16 +13,16 @@ first-clash-requires : tie.Need-first-clash-requires
 first-clash-requires c κs = search needs
 
 returns : tie.Need-returns
-unfolding said-snapshot steps
-returns c = sym (ap said-snapshot (read-first _ _ _ _ (c .before .before .first-wrong .ensures) (c .before .first-clash .ensures) (c .if1 .taken)))
+unfolding steps
+returns c = sym (read-first _ _ _ _ (c .before .before .first-wrong .ensures) (c .before .first-clash .ensures) (c .if1 .taken))
 
 returns-2 : tie.Need-returns-2
-unfolding said-snapshot steps
-returns-2 c = sym (ap said-snapshot (write-first _ _ _ _ (c .before .before .before .first-wrong .ensures) (c .before .before .first-clash .ensures) (c .before .if1 .left) (c .if2 .taken)))
+unfolding steps
+returns-2 c = sym (write-first _ _ _ _ (c .before .before .before .first-wrong .ensures) (c .before .before .first-clash .ensures) (c .before .if1 .left) (c .if2 .taken))
 
 returns-3 : tie.Need-returns-3
-unfolding said-snapshot steps
-returns-3 c = sym (ap said-snapshot (all-right _ _ _ _ (c .before .before .before .first-wrong .ensures) (c .before .before .first-clash .ensures) (c .before .if1 .left) (c .if2 .left)))
+unfolding steps
+returns-3 c = sym (all-right _ _ _ _ (c .before .before .before .first-wrong .ensures) (c .before .before .first-clash .ensures) (c .before .if1 .left) (c .if2 .left))
 
 pub judge-snapshot-spec : {M : Type 1} → statement M
 judge-snapshot-spec =

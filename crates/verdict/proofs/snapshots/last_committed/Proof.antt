@@ -1,111 +1,88 @@
 -- `last_committed` meets its contract.
 use mathlib.Core.Path.{_≡_, refl, sym, _∙_}
-use mathlib.Core.List.{List}
-use Prim.Native.Nat.{ℕ, _-_, _*_, _≤_}
+use mathlib.Core.Bool.{Bool}
+use Prim.Native.Nat.{_-_, _*_, _≤_}
 use native.Mathlib.Omega.{arith}
 use lib.ListN.{length}
+use Rattle.words.proofs.Truth.{and-true, and-no-left, →is, →isnt}
 use Rattle.verdict.specs.Limits.{transactions}
-use Rattle.verdict.specs.Log.{steps, kind, tx, commits-writer}
-use Rattle.verdict.specs.Refusal.{taken, log-refusal}
+use Rattle.verdict.specs.Log.{steps, tx, commits-writer}
+use Rattle.verdict.specs.Refusal.{log-refusal}
 use Rattle.verdict.specs.Snapshot.{last-committed}
-use Rattle.words.proofs.Truth.{→and, and-no-left, and-no-right, →is, →isnt}
+use Rattle.verdict.specs.declared.answers.Checked.the-variants.{Passed}
 use Rattle.verdict.proofs.WellFormed.{well-formed}
+use Rattle.verdict.proofs.Noting.{by-mark}
 use Rattle.verdict.proofs.SnapshotLaws.{last-none, found-back, further-back}
-use Rattle.verdict.proofs.Marks.{marked-yes, marked-no}
 use Rattle.verdict.proofs.snapshots.last_committed.Statement.{statement}
 use Rattle.verdict.proofs.snapshots.last_committed.Tie as tie
 
 abbrev Inv-loop : tie.InvT-loop
-Inv-loop log b x marks j₀ j = (j ≤ b) × (4 * b ≤ length log) × (log-refusal log ≡ taken) × (last-committed log b x ≡ last-committed log j x)
+Inv-loop log b x marks j₀ j = (j ≤ b) × (4 * b ≤ length log) × (log-refusal log ≡ Passed) × (last-committed log b x ≡ last-committed log j x)
 
 abbrev μ-loop : tie.MeasureT-loop
 μ-loop log b x marks j₀ j = j
+
+-- the head of the loop and the entry, from where a step is read; and that place, from where the mark of its transaction is
+abbrev head : tie.After-struct-known Inv-loop μ-loop → tie.At-loop Inv-loop μ-loop
+head c = c .before .before .before
+
+abbrev entry : tie.After-struct-known Inv-loop μ-loop → tie.Start Inv-loop μ-loop
+entry c = head c .before .before .before
+
+abbrev read : tie.After-marked Inv-loop μ-loop → tie.After-struct-known Inv-loop μ-loop
+read c = c .before .before .before
+
+-- the transaction of the step is within the limit
+tx-in : (c : tie.After-struct-known Inv-loop μ-loop) → tx (entry c .args .log .now) (head c .loop .j - 1) ≤ transactions
+unfolding steps
+tx-in c = well-formed _ (head c .loop .inv .2) .range (head c .loop .j - 1) (omega arith) .1
+
+-- whether the step commits a writer, by the mark
+by-writers : (c : tie.After-marked Inv-loop μ-loop) {v : Bool} → c .marked .result ≡ v → let a = entry (read c) .args in commits-writer (a .log .now) (a .x) (head (read c) .loop .j - 1) ≡ v
+unfolding commits-writer
+by-writers c q =
+    let here = read c in
+    let step = here .before .step-at .ensures in
+    and-true (→is (sym (step .kind-is) ∙ c .before .before .if1 .taken)) ∙ by-mark (head here .before .writers .ensures) (tx-in here) (step .tx-is) (c .marked .ensures) q
 
 writers-requires : tie.Need-writers-requires Inv-loop μ-loop
 writers-requires c κs = c .before .pre .0
 
 loop-holds : tie.Need-loop-holds Inv-loop μ-loop
-loop-holds c = (omega arith, c .before .before .pre .1, c .before .before .pre .0, refl)
+loop-holds c = let q = c .before .before .pre in (omega arith, q .1, q .0, refl)
 
 sub-j : tie.Need-sub-j Inv-loop μ-loop
 sub-j c = omega arith
 
-mul-if1 : tie.Need-mul-if1 Inv-loop μ-loop
-mul-if1 c = omega arith
+step-at-requires : tie.Need-step-at-requires Inv-loop μ-loop
+step-at-requires c κs = omega arith
 
-mul-if1-2 : tie.Need-mul-if1-2 Inv-loop μ-loop
-mul-if1-2 c = omega arith
-
-shared-slice-read-if1 : tie.Need-shared-slice-read-if1 Inv-loop μ-loop
-shared-slice-read-if1 c = omega arith
-
-mul-t : tie.Need-mul-t Inv-loop μ-loop
-mul-t c = omega arith
-
-add-t : tie.Need-add-t Inv-loop μ-loop
-add-t c = omega arith
-
-mul-t-2 : tie.Need-mul-t-2 Inv-loop μ-loop
-mul-t-2 c = omega arith
-
-shared-slice-read-t : tie.Need-shared-slice-read-t Inv-loop μ-loop
-shared-slice-read-t c = omega arith
-
-cast-if2 : tie.Need-cast-if2 Inv-loop μ-loop
-unfolding commits-writer kind tx steps
-cast-if2 c =
-    let at = c .before .before .before .before in
-    let a = at .before .before .before .args in
-    let log : List ℕ = a .log .now in
-    let j : ℕ = at .loop .j - 1 in
-    let t : tx log j ≤ transactions = well-formed log (at .loop .inv .2) .range j (omega arith) .1 in
-    omega arith
-
-array-read-if2 : tie.Need-array-read-if2 Inv-loop μ-loop
-unfolding commits-writer kind tx steps
-array-read-if2 c =
-    let at = c .before .before .before .before in
-    let a = at .before .before .before .args in
-    let log : List ℕ = a .log .now in
-    let j : ℕ = at .loop .j - 1 in
-    let t : tx log j ≤ transactions = well-formed log (at .loop .inv .2) .range j (omega arith) .1 in
-    omega arith
+marked-requires : tie.Need-marked-requires Inv-loop μ-loop
+marked-requires c κs = let here = c .before .before in omega (arith, here .before .step-at .ensures .tx-is, tx-in here)
 
 returns : tie.Need-returns Inv-loop μ-loop
-unfolding commits-writer kind tx steps
 returns c =
-    let at = c .before .before .before .before .before in
-    let a = at .before .before .before .args in
-    let log : List ℕ = a .log .now in
-    let j : ℕ = at .loop .j - 1 in
-    let t : tx log j ≤ transactions = well-formed log (at .loop .inv .2) .range j (omega arith) .1 in
-    sym (at .loop .inv .3 ∙ found-back log (a .x) (at .loop .j) (omega arith) (→and (→is (c .before .before .if1 .taken)) (marked-yes (at .before .writers .ensures) (tx log j) (omega arith) (c .if2 .taken))))
+    let here = read (c .before) in
+    let loop = head here .loop in
+    here .before .step-at .ensures .tx-is ∙ sym (loop .inv .3 ∙ found-back _ _ (loop .j) (omega arith) (by-writers (c .before) (c .if2 .taken)))
 
 loop-less : tie.Need-loop-less Inv-loop μ-loop
 loop-less c = omega arith
 
 loop-again : tie.Need-loop-again Inv-loop μ-loop
-unfolding commits-writer kind tx steps
 loop-again c =
-    let at = c .before .before .before .before .before in
-    let a = at .before .before .before .args in
-    let log : List ℕ = a .log .now in
-    let j : ℕ = at .loop .j - 1 in
-    let t : tx log j ≤ transactions = well-formed log (at .loop .inv .2) .range j (omega arith) .1 in
-    (omega arith, at .loop .inv .1, at .loop .inv .2, at .loop .inv .3 ∙ further-back log (a .x) (at .loop .j) (omega arith) (and-no-right _ (marked-no (at .before .writers .ensures) (tx log j) (omega arith) (c .if2 .left))))
+    let loop = head (read (c .before)) .loop in
+    (omega arith, loop .inv .1, loop .inv .2, loop .inv .3 ∙ further-back _ _ (loop .j) (omega arith) (by-writers (c .before) (c .if2 .left)))
 
 loop-less-2 : tie.Need-loop-less-2 Inv-loop μ-loop
 loop-less-2 c = omega arith
 
 loop-again-2 : tie.Need-loop-again-2 Inv-loop μ-loop
-unfolding commits-writer kind tx steps
+unfolding commits-writer
 loop-again-2 c =
-    let at = c .before .before .before in
-    let a = at .before .before .before .args in
-    let log : List ℕ = a .log .now in
-    let j : ℕ = at .loop .j - 1 in
-    let t : tx log j ≤ transactions = well-formed log (at .loop .inv .2) .range j (omega arith) .1 in
-    (omega arith, at .loop .inv .1, at .loop .inv .2, at .loop .inv .3 ∙ further-back log (a .x) (at .loop .j) (omega arith) (and-no-left _ (→isnt (c .if1 .left))))
+    let loop = head (c .before) .loop in
+    let step = c .before .before .step-at .ensures in
+    (omega arith, loop .inv .1, loop .inv .2, loop .inv .3 ∙ further-back _ _ (loop .j) (omega arith) (and-no-left _ (→isnt (λ e. c .if1 .left (step .kind-is ∙ e)))))
 
 returns-2 : tie.Need-returns-2 Inv-loop μ-loop
 returns-2 c = let e : c .before .loop .j ≡ 0 = omega arith in sym (c .before .loop .inv .3 ∙ rw e (last-none _ _))
@@ -119,15 +96,8 @@ last-committed-spec =
     writers-requires
     loop-holds
     sub-j
-    mul-if1
-    mul-if1-2
-    shared-slice-read-if1
-    mul-t
-    add-t
-    mul-t-2
-    shared-slice-read-t
-    cast-if2
-    array-read-if2
+    step-at-requires
+    marked-requires
     returns
     loop-less
     loop-again

@@ -4,6 +4,16 @@ use Rattle.verdict.proofs.SnapshotLaws.{not-yet, long-before, long-afte
 use Rattle.verdict.proofs.snapshots.partner_marks.Statement.{statement}
 use Rattle.verdict.proofs.snapshots.partner_marks.Tie as tie
 
+-- the entry, from where both commits are read; those, from where p commits before step j; and that, from where p commits behind t's begin
+abbrev entry : tie.After-theirs → tie.Start
+entry c = c .before .before .before
+
+abbrev earlier : tie.Else2 → tie.Else1
+earlier c = c .before .before
+
+abbrev behind : tie.Else3 → tie.Else2
+behind c = c .before .before
+
 mul-ours : tie.Need-mul-ours
 mul-ours c = search needs
 
@@ -18,8 +28,9 @@ element-copy-out-theirs c = search needs
 
 returns : tie.Need-returns
 returns c =
-    let a = c .before .before .before .before .args in
-    let q = c .before .before .before .before .pre in
+    let start = entry (c .before) in
+    let a = start .args in
+    let q = start .pre in
     no-partner (a .log .now) (a .j) (a .t) (a .p) (not-yet _ (a .j) (a .t) (a .p) (q .1) (q .2) (q .4) (q .5) (c .if1 .taken))
 
 mul-if2 : tie.Need-mul-if2
@@ -30,8 +41,9 @@ element-copy-out-if2 c = search needs
 
 returns-2 : tie.Need-returns-2
 returns-2 c =
-    let a = c .before .before .before .before .before .before .args in
-    let q = c .before .before .before .before .before .before .pre in
+    let start = entry (c .before .before .before) in
+    let a = start .args in
+    let q = start .pre in
     no-partner (a .log .now) (a .j) (a .t) (a .p) (long-before _ (a .j) (a .t) (a .p) (q .1) (q .2) (q .4) (q .5) (c .if2 .taken))
 
 mul-if3 : tie.Need-mul-if3
@@ -42,8 +54,9 @@ element-copy-out-if3 c = search needs
 
 returns-3 : tie.Need-returns-3
 returns-3 c =
-    let a = c .before .before .before .before .before .before .before .before .args in
-    let q = c .before .before .before .before .before .before .before .before .pre in
+    let start = entry (earlier (c .before .before) .before) in
+    let a = start .args in
+    let q = start .pre in
     no-partner (a .log .now) (a .j) (a .t) (a .p) (long-after _ (a .j) (a .t) (a .p) (q .1) (q .2) (q .4) (q .5) (c .if3 .taken))
 
 written-requires : tie.Need-written-requires
@@ -51,9 +64,12 @@ written-requires c κs = search needs
 
 returns-4 : tie.Need-returns-4
 returns-4 c =
-    let a = c .before .before .before .before .before .before .before .before .before .args in
-    let q = c .before .before .before .before .before .before .before .before .before .pre in
-    a-partner (a .log .now) (a .j) (a .t) (a .p) (overlapping _ (a .j) (a .t) (a .p) (q .1) (q .2) (q .4) (q .5) (q .3) (c .before .before .before .before .before .if1 .left) (c .before .before .before .if2 .left) (c .before .if3 .left)) (c .written .ensures)
+    let three = c .before in
+    let two = behind three in
+    let one = earlier two in
+    let a = entry (one .before) .args in
+    let q = entry (one .before) .pre in
+    a-partner (a .log .now) (a .j) (a .t) (a .p) (overlapping _ (a .j) (a .t) (a .p) (q .1) (q .2) (q .4) (q .5) (q .3) (one .if1 .left) (two .if2 .left) (three .if3 .left)) (c .written .ensures)
 
 pub partner-marks-spec : {M : Type 1} → statement M
 partner-marks-spec =

@@ -1,46 +1,52 @@
 -- `snapshot` meets its contract.
-use mathlib.Core.Path.{refl, sym, _∙_}
-use native.Mathlib.Omega.{arith}
+use mathlib.Core.Path.{_≡_, refl, sym, _∙_}
 use borrow.Author.Needs.{needs}
-use Rattle.verdict.specs.Limits.{transactions}
-use Rattle.verdict.specs.Refusal.{work-refusal}
-use Rattle.verdict.specs.Snapshot.{snapshot-verdict}
-use Rattle.verdict.specs.Said.{said-refusal}
+use Rattle.verdict.specs.Refusal.{_else-try_, work-refusal, log-refusal}
 use Rattle.verdict.specs.Call.{turned-away, answered}
+use Rattle.verdict.specs.declared.answers.Checked.the-variants.{Passed}
 use Rattle.verdict.proofs.WellFormed.{else-try→}
 use Rattle.verdict.proofs.Frame.{work-left}
-use Rattle.verdict.proofs.Steps.{said-refused, said-passed}
 use Rattle.verdict.proofs.snapshots.snapshot.Statement.{statement}
 use Rattle.verdict.proofs.snapshots.snapshot.Tie as tie
 
+-- the entry, from where it is known whether the call is taken
+abbrev entry : tie.After-admit → tie.Start
+entry c = c .before .before .before
+
+-- the call is taken, from where the work area is cleared
+abbrev taken : tie.After-slice-known2 → tie.After-enum-told
+taken c = c .before .before .before .before
+
+passed : (c : tie.After-enum-told) → let a = entry (c .before .before) .args in (work-refusal (a .work .now) else-try log-refusal (a .log .now)) ≡ Passed
+unfolding work-refusal
+passed c = sym (c .before .before .admit .ensures) ∙ c .enum-told .given .1
+
 admit-requires : tie.Need-admit-requires
-admit-requires c κs = omega arith
+admit-requires c κs = search needs
 
 enum-known-admitted : tie.Need-enum-known-admitted
-enum-known-admitted c = omega arith
+enum-known-admitted c = search needs
 
 enum-told : tie.Need-enum-told
-enum-told c = omega arith
+enum-told c = search needs
 
 clear-requires : tie.Need-clear-requires
-clear-requires c κs = omega arith
+clear-requires c κs = search needs
 
 judge-snapshot-requires : tie.Need-judge-snapshot-requires
-unfolding said-refusal work-refusal
-judge-snapshot-requires c κs = else-try→ (said-passed _ (sym (c .before .before .before .before .before .before .admit .ensures) ∙ c .before .before .before .before .enum-told .given .1)) .1
+judge-snapshot-requires c κs = else-try→ (passed (taken c)) .1
 
 returns : tie.Need-returns
-unfolding said-refusal work-refusal
-returns c = turned-away _ _ (sym (said-refused _ (sym (c .before .before .before .admit .ensures) ∙ c .before .admitted .given .1))) refl refl
+unfolding work-refusal
+returns c = turned-away _ _ (sym (c .before .admitted .given .1) ∙ c .before .before .before .admit .ensures) refl refl
 
 same-length : tie.Need-same-length
 same-length c = search needs
 
 returns-2 : tie.Need-returns-2
-unfolding said-refusal work-refusal
 returns-2 c =
-    let e = said-passed _ (sym (c .before .before .before .before .before .before .before .admit .ensures) ∙ c .before .before .before .before .before .enum-told .given .1) in
-    answered (snapshot-verdict transactions (c .before .before .before .before .before .before .before .before .before .before .args .log .now)) (sym e) refl (c .judge-snapshot .ensures) (work-left _ (c .before .before .before .before .before .before .before .before .before .before .args .work .now) _ (else-try→ e .0) (c .before .before .before .clear .ensures))
+    let here = taken (c .before) in
+    answered (c .judge-snapshot .result) (sym (passed here)) (c .judge-snapshot .ensures) refl (work-left _ (entry (here .before .before) .args .work .now) _ (else-try→ (passed here) .0) (c .before .before .before .clear .ensures))
 
 pub snapshot-spec : {M : Type 1} → statement M
 snapshot-spec =

@@ -1,87 +1,75 @@
 -- `mark_read` meets its contract.
-use mathlib.Core.Path.{refl, _∙_}
+use mathlib.Core.Path.{_≡_, ap, ap₂, _∙_}
+use mathlib.Core.List.{List}
+use Prim.Native.Nat.{ℕ, _≤_}
+use Rattle.verdict.specs.Limits.{transactions}
 use Rattle.verdict.specs.Log.{steps, tx, obj, src}
-use Rattle.verdict.proofs.WellFormed.{well-formed}
-use Rattle.verdict.proofs.VersionGraph.{next-range, source-range}
+use Rattle.verdict.specs.Inner.Edges.{with-edge}
+use Rattle.verdict.specs.Inner.VersionEdges.{next-writer}
+use Rattle.verdict.proofs.WellFormed.{Well, well-formed}
+use Rattle.verdict.proofs.VersionGraph.{next-range}
 use borrow.Author.Needs.{needs}
 use native.Mathlib.Omega.{arith}
 use Rattle.verdict.proofs.version_graph.mark_read.Statement.{statement}
 use Rattle.verdict.proofs.version_graph.mark_read.Tie as tie
 
-mul-t : tie.Need-mul-t
-mul-t c = search needs
+-- the entry, from where the step is known; that place, from where an edge is drawn
+abbrev entry : tie.After-step-at → tie.Start
+entry c = c .before .before .before
 
-add-t : tie.Need-add-t
-add-t c = search needs
+abbrev stepped : tie.After-join → tie.After-step-at
+stepped c = c .before .before .before
 
-mul-t-2 : tie.Need-mul-t-2
-mul-t-2 c = search needs
+abbrev the-log : tie.After-step-at → List ℕ
+the-log c = entry c .args .log .now
 
-shared-slice-read-t : tie.Need-shared-slice-read-t
-shared-slice-read-t c = search needs
+well : (c : tie.After-step-at) → Well transactions (the-log c)
+well c = well-formed (the-log c) (entry c .pre .0)
 
-mul-s : tie.Need-mul-s
-mul-s c = search needs
+-- the step's transaction and its source
+high : (c : tie.After-step-at) → c .step-at .result .tx ≤ transactions
+unfolding steps
+high c = rw (c .step-at .ensures .tx-is) (well c .range (entry c .args .i) (omega arith) .1)
 
-add-s : tie.Need-add-s
-add-s c = search needs
+source-high : (c : tie.After-step-at) → c .step-at .result .src ≤ transactions
+unfolding steps
+source-high c = rw (c .step-at .ensures .src-is) (well c .sources (entry c .args .i) (omega arith) (entry c .pre .2))
 
-mul-s-2 : tie.Need-mul-s-2
-mul-s-2 c = search needs
+-- the writer of the version after the one read
+next-is : (c : tie.After-next-writer) → let log = the-log (c .before) in let i = entry (c .before) .args .i in c .next-writer .result ≡ next-writer log (obj log i) (src log i)
+next-is c = let step = c .before .step-at .ensures in c .next-writer .ensures ∙ ap₂ (next-writer _) (step .obj-is) (step .src-is)
 
-shared-slice-read-s : tie.Need-shared-slice-read-s
-shared-slice-read-s c = search needs
-
-mul-next-writer : tie.Need-mul-next-writer
-mul-next-writer c = search needs
-
-add-next-writer : tie.Need-add-next-writer
-add-next-writer c = search needs
-
-mul-next-writer-2 : tie.Need-mul-next-writer-2
-mul-next-writer-2 c = search needs
-
-shared-slice-read-next-writer : tie.Need-shared-slice-read-next-writer
-shared-slice-read-next-writer c = search needs
+step-at-requires : tie.Need-step-at-requires
+step-at-requires c κs = search needs
 
 next-writer-requires : tie.Need-next-writer-requires
 next-writer-requires c κs = search needs
 
 join-requires : tie.Need-join-requires
-unfolding steps tx src
-join-requires c κs = let here = c .before .before .before .before .before .before .before in
-    let well = well-formed _ (here .pre .0) in
-    (here .pre .3, source-range _ well (here .args .i) (omega arith) (here .pre .2), well .range (here .args .i) (omega arith) .1)
+join-requires c κs = let at = c .before .before in (entry at .pre .3, source-high at, high at)
 
 join-requires-2 : tie.Need-join-requires-2
-unfolding steps tx src
-join-requires-2 c κs = let here = c .before .before .before .before .before .before .before .before .before .before .before in
-    let well = well-formed _ (here .pre .0) in
-    (c .before .before .before .join .kept .0 ∙ here .pre .3, well .range (here .args .i) (omega arith) .1, rw (c .before .before .before .before .before .next-writer .ensures) (next-range _ well _ _))
+join-requires-2 c κs = let joined = c .before .before .before in
+    let at = stepped joined in
+    (joined .join .kept .0 ∙ entry at .pre .3, high at, rw (joined .before .before .next-writer .ensures) (next-range _ (well at) _ _))
 
 same-length : tie.Need-same-length
 same-length c = search needs
 
 returns : tie.Need-returns
-unfolding tx obj src
-returns c = c .before .before .join2 .ensures ∙ rw (c .before .before .before .before .before .before .join .ensures, c .before .before .before .before .before .before .before .before .next-writer .ensures) refl
+returns c = let joined2 = c .before .before in
+    let joined = joined2 .before .before .before .before in
+    let next = joined .before .before in
+    let step = next .before .step-at in
+    joined2 .join2 .ensures ∙
+    ap (λ (m : List ℕ). with-edge m (step .result .tx) (next .next-writer .result)) (joined .join .ensures ∙ ap₂ (with-edge _) (step .ensures .src-is) (step .ensures .tx-is)) ∙
+    ap₂ (with-edge _) (step .ensures .tx-is) (next-is next)
 
 pub mark-read-spec : {M : Type 1} → statement M
 mark-read-spec =
     tie.close
     (tie.spec
-    mul-t
-    add-t
-    mul-t-2
-    shared-slice-read-t
-    mul-s
-    add-s
-    mul-s-2
-    shared-slice-read-s
-    mul-next-writer
-    add-next-writer
-    mul-next-writer-2
-    shared-slice-read-next-writer
+    step-at-requires
     next-writer-requires
     join-requires
     join-requires-2

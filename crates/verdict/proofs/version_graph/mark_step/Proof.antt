@@ -1,102 +1,102 @@
 -- `mark_step` meets its contract.
-use mathlib.Core.Path.{sym, _∙_}
+use mathlib.Core.Path.{_≡_, sym, _∙_}
+use mathlib.Core.Bool.{true}
+use mathlib.Core.List.{List}
+use Prim.Native.Nat.{ℕ, _<_}
 use borrow.Author.Tests.{not-true, not-false}
-use Rattle.verdict.specs.Log.{steps, kind, tx}
-use Rattle.verdict.proofs.WellFormed.{well-formed}
+use Rattle.verdict.specs.Limits.{transactions}
+use Rattle.verdict.specs.Log.{steps, kind, tx, committed}
+use Rattle.verdict.proofs.WellFormed.{Well, well-formed}
+use Rattle.verdict.proofs.Matrices.{told-committed}
 use Rattle.verdict.proofs.VersionGraph.{open-step, other-step, none-drawn, write-drawn, read-drawn}
 use borrow.Author.Needs.{needs}
 use native.Mathlib.Omega.{arith}
 use Rattle.verdict.proofs.version_graph.mark_step.Statement.{statement}
 use Rattle.verdict.proofs.version_graph.mark_step.Tie as tie
 
-mul-takes-part : tie.Need-mul-takes-part
-mul-takes-part c = search needs
+-- the entry, from where the step is known
+abbrev entry : tie.After-step-at → tie.Start
+entry c = c .before .before .before
 
-add-takes-part : tie.Need-add-takes-part
-add-takes-part c = search needs
+module _ (c : tie.After-step-at) where
+  abbrev the-log : List ℕ
+  the-log = entry c .args .log .now
 
-mul-takes-part-2 : tie.Need-mul-takes-part-2
-mul-takes-part-2 c = search needs
+  abbrev i : ℕ
+  i = entry c .args .i
 
-shared-slice-read-takes-part : tie.Need-shared-slice-read-takes-part
-shared-slice-read-takes-part c = search needs
+  inside : i < steps the-log
+  unfolding steps
+  inside = omega arith
+
+  well : Well transactions the-log
+  well = well-formed the-log (entry c .pre .0)
+
+-- what the marks say of its transaction
+told : (c : tie.After-takes-part) → c .takes-part .result ≡ committed (the-log (c .before)) (tx (the-log (c .before)) (i (c .before)))
+told c = told-committed (entry (c .before) .pre .2) (c .takes-part .ensures) (c .before .step-at .ensures .tx-is)
+
+by-committed : (c : tie.Else1) → let at = c .before .before in committed (the-log at) (tx (the-log at) (i at)) ≡ true
+by-committed c = sym (told (c .before)) ∙ not-false _ (c .if1 .left)
+
+-- it is a read, or a write
+is-read : (c : tie.Then2) → let at = c .before .before .before .before in kind (the-log at) (i at) ≡ 2
+is-read c = sym (c .before .before .before .before .step-at .ensures .kind-is) ∙ c .if2 .taken
+
+no-read : (c : tie.Else2) → let at = c .before .before .before .before in kind (the-log at) (i at) ≡ 2 → ⊥
+no-read c e = c .if2 .left (c .before .before .before .before .step-at .ensures .kind-is ∙ e)
+
+step-at-requires : tie.Need-step-at-requires
+step-at-requires c κs = search needs
 
 takes-part-requires : tie.Need-takes-part-requires
-unfolding steps tx
-takes-part-requires c κs = let here = c .before .before .before in well-formed _ (here .pre .0) .range (here .args .i) (omega arith)
+takes-part-requires c κs = rw (c .step-at .ensures .tx-is) (well c .range (i c) (inside c))
 
 returns : tie.Need-returns
-unfolding tx
-returns c = let here = c .before .before .before .before .before in
-    none-drawn _ _ (here .pre .3) (open-step _ (here .args .i) (sym (here .pre .2 .mark _) ∙ sym (c .before .takes-part .ensures) ∙ not-true _ (c .if1 .taken)))
-
-mul-if2 : tie.Need-mul-if2
-mul-if2 c = search needs
-
-mul-if2-2 : tie.Need-mul-if2-2
-mul-if2-2 c = search needs
-
-shared-slice-read-if2 : tie.Need-shared-slice-read-if2
-shared-slice-read-if2 c = search needs
+returns c = let at = c .before .before in none-drawn _ _ (entry at .pre .3) (open-step _ (i at) (sym (told (c .before)) ∙ not-true _ (c .if1 .taken)))
 
 mark-read-requires : tie.Need-mark-read-requires
-unfolding kind
-mark-read-requires c κs = let here = c .before .before .before .before .before .before .before .before in (here .pre .0, here .pre .1, c .before .if2 .taken, here .pre .3 .size)
+mark-read-requires c κs = search needs
 
 same-length : tie.Need-same-length
 same-length c = search needs
 
 returns-2 : tie.Need-returns-2
-unfolding steps kind tx
-returns-2 c = let here = c .before .before .before .before .before .before .before .before .before .before .before in
-    rw (c .before .before .mark-read .ensures)
-    (read-drawn _ _ (here .pre .3) (well-formed _ (here .pre .0)) (omega arith) (sym (here .pre .2 .mark _) ∙ sym (c .before .before .before .before .before .before .before .takes-part .ensures) ∙ not-false _ (c .before .before .before .before .before .before .if1 .left)) (c .before .before .before .before .if2 .taken))
-
-mul-if3 : tie.Need-mul-if3
-mul-if3 c = search needs
-
-mul-if3-2 : tie.Need-mul-if3-2
-mul-if3-2 c = search needs
-
-shared-slice-read-if3 : tie.Need-shared-slice-read-if3
-shared-slice-read-if3 c = search needs
+returns-2 c = let marked = c .before .before in
+    let reading = marked .before .before in
+    let going = reading .before .before in
+    let at = going .before .before in
+    rw (marked .mark-read .ensures) (read-drawn _ _ (entry at .pre .3) (well at) (inside at) (by-committed going) (is-read reading))
 
 mark-write-requires : tie.Need-mark-write-requires
-mark-write-requires c κs = let here = c .before .before .before .before .before .before .before .before .before .before in (here .pre .0, here .pre .1, here .pre .3 .size)
+mark-write-requires c κs = search needs
 
 same-length-2 : tie.Need-same-length-2
 same-length-2 c = search needs
 
 returns-3 : tie.Need-returns-3
-unfolding steps kind tx
-returns-3 c = let here = c .before .before .before .before .before .before .before .before .before .before .before .before .before in
-    rw (c .before .before .mark-write .ensures)
-    (write-drawn _ _ (here .pre .3) (well-formed _ (here .pre .0)) (omega arith) (sym (here .pre .2 .mark _) ∙ sym (c .before .before .before .before .before .before .before .before .before .takes-part .ensures) ∙ not-false _ (c .before .before .before .before .before .before .before .before .if1 .left)) (c .before .before .before .before .if3 .taken))
+returns-3 c = let marked = c .before .before in
+    let writing = marked .before .before in
+    let going = writing .before .before .before .before in
+    let at = going .before .before in
+    rw (marked .mark-write .ensures)
+    (write-drawn _ _ (entry at .pre .3) (well at) (inside at) (by-committed going) (sym (at .step-at .ensures .kind-is) ∙ writing .if3 .taken))
 
 returns-4 : tie.Need-returns-4
-unfolding kind
-returns-4 c = let here = c .before .before .before .before .before .before .before .before .before in
-    none-drawn _ _ (here .pre .3) (other-step _ (here .args .i) (c .before .before .if2 .left) (c .if3 .left))
+returns-4 c = let other = c .before .before in
+    let at = other .before .before .before .before in
+    none-drawn _ _ (entry at .pre .3) (other-step _ (i at) (no-read other) (λ e. c .if3 .left (at .step-at .ensures .kind-is ∙ e)))
 
 pub mark-step-spec : {M : Type 1} → statement M
 mark-step-spec =
     tie.close
     (tie.spec
-    mul-takes-part
-    add-takes-part
-    mul-takes-part-2
-    shared-slice-read-takes-part
+    step-at-requires
     takes-part-requires
     returns
-    mul-if2
-    mul-if2-2
-    shared-slice-read-if2
     mark-read-requires
     same-length
     returns-2
-    mul-if3
-    mul-if3-2
-    shared-slice-read-if3
     mark-write-requires
     same-length-2
     returns-3

@@ -1,14 +1,13 @@
 -- `first_before` meets its contract.
-use mathlib.Core.Path.{_≡_, refl, sym}
+use mathlib.Core.Path.{_≡_, refl, sym, _∙_}
 use mathlib.Core.Bool.{false}
 use mathlib.Core.Logic.{⊎-elim}
 use Prim.Native.Nat.{_*_, _-_, _≤_}
 use native.Mathlib.Omega.{arith}
 use lib.ListN.{length}
 use Rattle.words.specs.Tests.{some}
-use Rattle.verdict.specs.Log.{steps, kind, tx}
-use Rattle.verdict.specs.Walk.{does}
-use Rattle.words.proofs.Truth.{→and, and-no-left, and-no-right, →is, →isnt, none→, lowest-none, lowest-at, none-next}
+use Rattle.words.proofs.Truth.{→and, and-no-left, and-no-right, →is, →isnt, lowest-none, lowest-found, none-next}
+use Rattle.verdict.specs.Inner.Marks.{does}
 use Rattle.verdict.proofs.walk.first_before.Statement.{statement}
 use Rattle.verdict.proofs.walk.first_before.Tie as tie
 
@@ -18,36 +17,23 @@ Inv-loop log n k t i₀ i = (4 * n ≤ length log) × (i ≤ n) × (some i (does
 abbrev μ-loop : tie.MeasureT-loop
 μ-loop log n k t i₀ i = n - i
 
+-- the head of the loop, from where a step is read
+abbrev head : tie.After-struct-known Inv-loop μ-loop → tie.At-loop Inv-loop μ-loop
+head c = c .before .before .before
+
 loop-holds : tie.Need-loop-holds Inv-loop μ-loop
 unfolding some
-loop-holds c = (c .pre, omega arith, refl)
+loop-holds c = (c .before .pre, omega arith, refl)
 
-mul-if1 : tie.Need-mul-if1 Inv-loop μ-loop
-mul-if1 c = omega arith
-
-mul-if1-2 : tie.Need-mul-if1-2 Inv-loop μ-loop
-mul-if1-2 c = omega arith
-
-shared-slice-read-if1 : tie.Need-shared-slice-read-if1 Inv-loop μ-loop
-shared-slice-read-if1 c = omega arith
-
-mul-if2 : tie.Need-mul-if2 Inv-loop μ-loop
-mul-if2 c = omega arith
-
-add-if2 : tie.Need-add-if2 Inv-loop μ-loop
-add-if2 c = omega arith
-
-mul-if2-2 : tie.Need-mul-if2-2 Inv-loop μ-loop
-mul-if2-2 c = omega arith
-
-shared-slice-read-if2 : tie.Need-shared-slice-read-if2 Inv-loop μ-loop
-shared-slice-read-if2 c = omega arith
+step-at-requires : tie.Need-step-at-requires Inv-loop μ-loop
+step-at-requires c κs = omega arith
 
 returns : tie.Need-returns Inv-loop μ-loop
-unfolding steps does kind tx
+unfolding does
 returns c =
-    let at = c .before .before .before .before .before in
-    sym (lowest-at (does (at .before .args .log .now) (at .before .args .k) (at .before .args .t)) (at .loop .i) (omega arith) (→and (→is (c .before .before .if1 .taken)) (→is (c .if2 .taken))) (none→ _ (at .loop .inv .2)))
+    let here = c .before .before .before in
+    let step = here .before .step-at .ensures in
+    sym (lowest-found _ (head here .loop .i) (omega arith) (→and (→is (sym (step .kind-is) ∙ c .before .before .if1 .taken)) (→is (sym (step .tx-is) ∙ c .if2 .taken))) (head here .loop .inv .2))
 
 add-i : tie.Need-add-i Inv-loop μ-loop
 add-i c = omega arith
@@ -56,14 +42,15 @@ loop-less : tie.Need-loop-less Inv-loop μ-loop
 loop-less c = omega arith
 
 loop-again : tie.Need-loop-again Inv-loop μ-loop
-unfolding does kind tx
+unfolding does
 loop-again c =
-    let at = c .before .before .before in
-    (at .loop .inv .0, omega arith, none-next _ _ (at .loop .inv .2) (⊎-elim (λ w. and-no-right _ (→isnt (w .2 .left))) (λ w. and-no-left _ (→isnt (w .left))) (c .if1 .came)))
+    let inv = head (c .before) .loop .inv in
+    let step = c .before .before .step-at .ensures in
+    (inv .0, omega arith, none-next _ _ (inv .2) (⊎-elim (λ w. and-no-right _ (→isnt (λ e. w .2 .left (step .tx-is ∙ e)))) (λ w. and-no-left _ (→isnt (λ e. w .left (step .kind-is ∙ e)))) (c .if1 .came)))
 
 returns-2 : tie.Need-returns-2 Inv-loop μ-loop
 returns-2 c =
-    let a = c .before .before .args in
+    let a = c .before .before .before .args in
     let e : c .before .loop .i ≡ a .n = omega arith in
     sym (lowest-none (does (a .log .now) (a .k) (a .t)) (rw e at (c .before .loop .inv .2)))
 
@@ -74,13 +61,7 @@ first-before-spec =
     Inv-loop
     μ-loop
     loop-holds
-    mul-if1
-    mul-if1-2
-    shared-slice-read-if1
-    mul-if2
-    add-if2
-    mul-if2-2
-    shared-slice-read-if2
+    step-at-requires
     returns
     add-i
     loop-less

@@ -1,24 +1,22 @@
 -- `first_steps` meets its contract.
-use mathlib.Core.Path.{_≡_, _∙_}
-use Prim.Native.Nat.{ℕ, _-_, _≤_, _<_}
+use Prim.Native.Nat.{_-_}
 use native.Mathlib.Omega.{arith}
 use borrow.Author.Needs.{needs}
-use lib.ListN.{length, getD, length-set}
 use Rattle.words.specs.Tests.{lowest}
 use Rattle.verdict.specs.Log.{steps}
-use Rattle.verdict.specs.Walk.{does}
-use Rattle.verdict.proofs.Marks.{table-more}
+use Rattle.verdict.specs.Inner.Marks.{does}
+use Rattle.verdict.proofs.Tables.{Filled, filled-none, filled-more, filled-all}
 use Rattle.verdict.proofs.walk.first_steps.Statement.{statement}
 use Rattle.verdict.proofs.walk.first_steps.Tie as tie
 
 abbrev Inv-loop : tie.InvT-loop
-Inv-loop log k table₀ t₀ table t = (t ≤ 129) × (length table ≡ 129) × ((u : ℕ) → u < t → getD table u 0 ≡ lowest (steps log) (does log k u))
+Inv-loop log k table₀ t₀ table t = Filled 129 (λ u. lowest (steps log) (does log k u)) t table
 
 abbrev μ-loop : tie.MeasureT-loop
 μ-loop log k table₀ t₀ table t = 129 - t
 
 loop-holds : tie.Need-loop-holds Inv-loop μ-loop
-loop-holds c = (omega arith, search needs, λ u h. absurd (omega (arith, h)))
+loop-holds c = filled-none (search needs)
 
 first-step-requires : tie.Need-first-step-requires Inv-loop μ-loop
 first-step-requires c κs = omega arith
@@ -39,16 +37,10 @@ loop-less : tie.Need-loop-less Inv-loop μ-loop
 loop-less c = omega arith
 
 loop-again : tie.Need-loop-again Inv-loop μ-loop
-loop-again c =
-    let at = c .before .before in
-    let a = at .before .before .args in (
-      omega arith,
-      length-set (at .loop .table) (at .loop .t) (c .first-step .result) ∙ at .loop .inv .1,
-      table-more (λ u. lowest (steps (a .log .now)) (does (a .log .now) (a .k) u)) (at .loop .table) (at .loop .t) (c .first-step .result) (omega (arith, at .loop .inv .1)) (at .loop .inv .2) (c .first-step .ensures),
-    )
+loop-again c = filled-more (c .before .before .loop .inv) (c .first-step .result) (omega arith) (c .first-step .ensures)
 
 returns : tie.Need-returns Inv-loop μ-loop
-returns c = record { entry = λ t h. c .before .loop .inv .2 t (omega arith) }
+returns c = record { entry = λ t h. filled-all (c .before .loop .inv) (omega arith) t (omega arith) }
 
 pub first-steps-spec : {M : Type 1} → statement M
 first-steps-spec =

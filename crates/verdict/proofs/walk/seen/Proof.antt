@@ -2,7 +2,7 @@
 use borrow.Author.Needs.{needs}
 use native.Mathlib.Omega.{arith}
 use mathlib.Core.Path.{sym}
-use Rattle.verdict.specs.Walk.{does}
+use Rattle.verdict.specs.Inner.Marks.{does}
 use Rattle.words.proofs.Truth.{lowest-passes, lowest-some}
 use Rattle.verdict.proofs.walk.seen.Statement.{statement}
 use Rattle.verdict.proofs.walk.seen.Tie as tie

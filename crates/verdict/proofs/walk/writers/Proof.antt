@@ -1,74 +1,55 @@
 -- `writers` meets its contract.
 use mathlib.Core.Path.{_≡_, refl, sym, _∙_}
+use mathlib.Core.Bool.{Bool}
 use mathlib.Core.Logic.{⊎-elim}
-use mathlib.Core.List.{List}
-use Prim.Native.Nat.{ℕ, suc, _-_, _/_, _≤_, _<_}
+use Prim.Native.Nat.{ℕ, suc, _-_, _/_, _≤_}
 use native.Mathlib.Omega.{arith}
 use borrow.Author.Needs.{needs}
 use lib.ListN.{length, length-set}
 use Rattle.words.specs.Tests.{some}
 use Rattle.verdict.specs.Limits.{transactions}
-use Rattle.verdict.specs.Log.{steps, kind, tx, obj, writes, writer}
-use Rattle.verdict.specs.Refusal.{taken, log-refusal}
-use Rattle.words.proofs.Truth.{→and, and-no-left, and-no-right, →is, →isnt}
+use Rattle.verdict.specs.Log.{steps, tx, writes, writer}
+use Rattle.verdict.specs.Refusal.{log-refusal}
+use Rattle.verdict.specs.Inner.Marks.{Marked}
+use Rattle.verdict.specs.declared.answers.Checked.the-variants.{Passed}
 use Rattle.verdict.proofs.WellFormed.{well-formed}
 use Rattle.verdict.proofs.Marks.{unmarked, mark-step, mark-skip}
-use Rattle.verdict.specs.Walk.{Marked}
+use Rattle.verdict.proofs.StepLaws.{writes-it, no-write, other-writer, other-object}
 use Rattle.verdict.proofs.walk.writers.Statement.{statement}
 use Rattle.verdict.proofs.walk.writers.Tie as tie
 
 abbrev Inv-loop : tie.InvT-loop
-Inv-loop log x n marks₀ i₀ marks i = (n ≡ length log / 4) × (i ≤ n) × (log-refusal log ≡ taken) × (length marks ≡ 129) × Marked (suc transactions) (λ t. some i (writes log t x)) marks
+Inv-loop log x n marks₀ i₀ marks i = (n ≡ length log / 4) × (i ≤ n) × (log-refusal log ≡ Passed) × (length marks ≡ 129) × Marked (suc transactions) (λ t. some i (writes log t x)) marks
 
 abbrev μ-loop : tie.MeasureT-loop
 μ-loop log x n marks₀ i₀ marks i = n - i
 
+-- the head of the loop and the entry, from where a step is read
+abbrev head : tie.After-struct-known Inv-loop μ-loop → tie.At-loop Inv-loop μ-loop
+head c = c .before .before .before
+
+abbrev entry : tie.After-struct-known Inv-loop μ-loop → tie.Start Inv-loop μ-loop
+entry c = head c .before .before
+
+-- the transaction of a step is within the limit
+tx-in : (c : tie.After-struct-known Inv-loop μ-loop) → tx (entry c .args .log .now) (head c .loop .i) ≤ transactions
+unfolding steps
+tx-in c = well-formed _ (head c .loop .inv .2) .range (head c .loop .i) (omega arith) .1
+
 loop-holds : tie.Need-loop-holds Inv-loop μ-loop
 unfolding some
-loop-holds c = (refl, omega arith, c .before .pre, refl, unmarked 129 _ (omega arith) (λ x. refl))
+loop-holds c = (refl, omega arith, c .before .pre, refl, unmarked 129 _ (omega arith) (λ t. refl))
 
-mul-if1 : tie.Need-mul-if1 Inv-loop μ-loop
-mul-if1 c = omega arith
-
-mul-if1-2 : tie.Need-mul-if1-2 Inv-loop μ-loop
-mul-if1-2 c = omega arith
-
-shared-slice-read-if1 : tie.Need-shared-slice-read-if1 Inv-loop μ-loop
-shared-slice-read-if1 c = omega arith
-
-mul-if2 : tie.Need-mul-if2 Inv-loop μ-loop
-mul-if2 c = omega arith
-
-add-if2 : tie.Need-add-if2 Inv-loop μ-loop
-add-if2 c = omega arith
-
-mul-if2-2 : tie.Need-mul-if2-2 Inv-loop μ-loop
-mul-if2-2 c = omega arith
-
-shared-slice-read-if2 : tie.Need-shared-slice-read-if2 Inv-loop μ-loop
-shared-slice-read-if2 c = omega arith
-
-mul-index : tie.Need-mul-index Inv-loop μ-loop
-mul-index c = omega arith
-
-add-index : tie.Need-add-index Inv-loop μ-loop
-add-index c = omega arith
-
-mul-index-2 : tie.Need-mul-index-2 Inv-loop μ-loop
-mul-index-2 c = omega arith
-
-shared-slice-read-index : tie.Need-shared-slice-read-index Inv-loop μ-loop
-shared-slice-read-index c = omega arith
+step-at-requires : tie.Need-step-at-requires Inv-loop μ-loop
+step-at-requires c κs = omega arith
 
 index-requires : tie.Need-index-requires Inv-loop μ-loop
 index-requires c κs = search needs
 
 array-write-marks : tie.Need-array-write-marks Inv-loop μ-loop
-unfolding kind tx obj steps
 array-write-marks c =
-    let at = c .before .before .before .before .before .before .before in
-    let z : tx (at .before .before .args .log .now) (at .loop .i) < 129 = let y : tx (at .before .before .args .log .now) (at .loop .i) ≤ transactions = well-formed _ (at .loop .inv .2) .range (at .loop .i) (omega arith) .1 in omega arith in
-    rw (c .index .ensures) z
+    let here = c .before .before .before .before in
+    omega (arith, c .index .ensures, here .before .step-at .ensures .tx-is, tx-in here)
 
 add-i : tie.Need-add-i Inv-loop μ-loop
 add-i c = omega arith
@@ -77,18 +58,18 @@ loop-less : tie.Need-loop-less Inv-loop μ-loop
 loop-less c = omega arith
 
 loop-again : tie.Need-loop-again Inv-loop μ-loop
-unfolding writes kind tx obj steps
 loop-again c =
-    let at = c .before .before .before in
-    let a = at .before .before .args in
-    let i : ℕ = at .loop .i in
-    let log : List ℕ = a .log .now in (
+    let here = c .before in
+    let loop = head here .loop in
+    let x : ℕ = entry here .args .x in
+    let step = here .before .step-at .ensures in
+    let more : ℕ → ℕ → Bool = λ d j. writes (entry here .args .log .now) d x j in (
       refl,
       omega arith,
-      at .loop .inv .2,
-      ⊎-elim (λ w. rw (w .5) (length-set (at .loop .marks) (w .4 .result) 1 ∙ at .loop .inv .3)) (⊎-elim (λ w. rw (w .3) (at .loop .inv .3)) (λ w. rw (w .1) (at .loop .inv .3))) (c .if1 .came),
-      ⊎-elim (λ w. rw (w .5, w .4 .ensures) (mark-step (λ d j. writes log d (a .x) j) i (at .loop .inv .4) (tx log i) (let z : tx log i ≤ transactions = well-formed log (at .loop .inv .2) .range i (omega arith) .1 in omega (arith, at .loop .inv .3)) (→and (→and (→is (w .0 .taken)) (→is refl)) (→is (w .2 .taken))) (λ d n. and-no-left _ (and-no-right _ (→isnt (λ q. n (sym q)))))))
-          (⊎-elim (λ w. rw (w .3) (mark-skip (λ d j. writes log d (a .x) j) i (at .loop .inv .4) (λ d. and-no-right _ (→isnt (w .2 .left))))) (λ w. rw (w .1) (mark-skip (λ d j. writes log d (a .x) j) i (at .loop .inv .4) (λ d. and-no-left _ (and-no-left _ (→isnt (w .0 .left))))))) (c .if1 .came),
+      loop .inv .2,
+      ⊎-elim (λ w. rw (w .4) (length-set (loop .marks) (w .3 .result) 1 ∙ loop .inv .3)) (⊎-elim (λ w. rw (w .3) (loop .inv .3)) (λ w. rw (w .1) (loop .inv .3))) (c .if1 .came),
+      ⊎-elim (λ w. rw (w .4, w .3 .ensures ∙ step .tx-is) (mark-step more (loop .i) (loop .inv .4) _ (omega (arith, loop .inv .3, tx-in here)) (writes-it step _ x (w .0 .taken) (step .tx-is) (w .2 .taken)) (λ d n. other-writer step d x (λ e. n (sym e ∙ step .tx-is)))))
+          (⊎-elim (λ w. rw (w .3) (mark-skip more (loop .i) (loop .inv .4) (λ d. other-object step d x (w .2 .left)))) (λ w. rw (w .1) (mark-skip more (loop .i) (loop .inv .4) (λ d. no-write step d x (w .0 .left))))) (c .if1 .came),
     )
 
 returns : tie.Need-returns Inv-loop μ-loop
@@ -102,17 +83,7 @@ writers-spec =
     Inv-loop
     μ-loop
     loop-holds
-    mul-if1
-    mul-if1-2
-    shared-slice-read-if1
-    mul-if2
-    add-if2
-    mul-if2-2
-    shared-slice-read-if2
-    mul-index
-    add-index
-    mul-index-2
-    shared-slice-read-index
+    step-at-requires
     index-requires
     array-write-marks
     add-i

@@ -6,8 +6,9 @@ use Prim.Native.Nat.{_-_, _*_, _≤_}
 use native.Mathlib.Omega.{arith}
 use lib.ListN.{length}
 use Rattle.words.specs.Tests.{_upto_, _and_, some}
-use Rattle.verdict.specs.Log.{kind, tx, obj, writes}
-use Rattle.words.proofs.Truth.{→and, and-no-left, and-no-right, →is, →isnt, →upto, →not-upto, →some, →none, none-next}
+use Rattle.words.proofs.Truth.{→and, and-no-left, and-no-right, →upto, →not-upto, →some, →none, none-next}
+use Rattle.verdict.specs.Log.{writes}
+use Rattle.verdict.proofs.StepLaws.{writes-it, no-write, other-writer, other-object}
 use Rattle.verdict.proofs.walk.writes_within.Statement.{statement}
 use Rattle.verdict.proofs.walk.writes_within.Tie as tie
 
@@ -17,47 +18,21 @@ Inv-loop log from to t x i₀ i = (from ≤ i) × (i ≤ to) × (4 * to ≤ leng
 abbrev μ-loop : tie.MeasureT-loop
 μ-loop log from to t x i₀ i = to - i
 
+-- the head of the loop, from where a step is read
+abbrev head : tie.After-struct-known Inv-loop μ-loop → tie.At-loop Inv-loop μ-loop
+head c = c .before .before .before
+
 loop-holds : tie.Need-loop-holds Inv-loop μ-loop
-loop-holds c = (omega arith, c .pre .0, c .pre .1, →none _ (λ j h. and-no-left _ (→not-upto h)))
+loop-holds c = (omega arith, c .before .pre .0, c .before .pre .1, →none _ (λ j h. and-no-left _ (→not-upto h)))
 
-mul-if1 : tie.Need-mul-if1 Inv-loop μ-loop
-mul-if1 c = omega arith
-
-mul-if1-2 : tie.Need-mul-if1-2 Inv-loop μ-loop
-mul-if1-2 c = omega arith
-
-shared-slice-read-if1 : tie.Need-shared-slice-read-if1 Inv-loop μ-loop
-shared-slice-read-if1 c = omega arith
-
-mul-if2 : tie.Need-mul-if2 Inv-loop μ-loop
-mul-if2 c = omega arith
-
-add-if2 : tie.Need-add-if2 Inv-loop μ-loop
-add-if2 c = omega arith
-
-mul-if2-2 : tie.Need-mul-if2-2 Inv-loop μ-loop
-mul-if2-2 c = omega arith
-
-shared-slice-read-if2 : tie.Need-shared-slice-read-if2 Inv-loop μ-loop
-shared-slice-read-if2 c = omega arith
-
-mul-if3 : tie.Need-mul-if3 Inv-loop μ-loop
-mul-if3 c = omega arith
-
-add-if3 : tie.Need-add-if3 Inv-loop μ-loop
-add-if3 c = omega arith
-
-mul-if3-2 : tie.Need-mul-if3-2 Inv-loop μ-loop
-mul-if3-2 c = omega arith
-
-shared-slice-read-if3 : tie.Need-shared-slice-read-if3 Inv-loop μ-loop
-shared-slice-read-if3 c = omega arith
+step-at-requires : tie.Need-step-at-requires Inv-loop μ-loop
+step-at-requires c κs = omega arith
 
 returns : tie.Need-returns Inv-loop μ-loop
-unfolding writes kind tx obj
 returns c =
-    let at = c .before .before .before .before .before .before .before in
-    sym (→some _ (at .loop .i) (omega arith) (→and (→upto (at .loop .inv .0)) (→and (→and (→is (c .before .before .before .before .if1 .taken)) (→is (c .before .before .if2 .taken))) (→is (c .if3 .taken)))))
+    let two = c .before .before in
+    let here = two .before .before .before in
+    sym (→some _ (head here .loop .i) (omega arith) (→and (→upto (head here .loop .inv .0)) (writes-it (here .before .step-at .ensures) _ _ (two .before .before .if1 .taken) (two .if2 .taken) (c .if3 .taken))))
 
 add-i : tie.Need-add-i Inv-loop μ-loop
 add-i c = omega arith
@@ -66,19 +41,17 @@ loop-less : tie.Need-loop-less Inv-loop μ-loop
 loop-less c = omega arith
 
 loop-again : tie.Need-loop-again Inv-loop μ-loop
-unfolding writes kind tx obj
 loop-again c =
-    let at = c .before .before .before in (
+    let inv = head (c .before) .loop .inv in
+    let step = c .before .before .step-at .ensures in (
       omega arith,
       omega arith,
-      at .loop .inv .2,
-      none-next _ _ (at .loop .inv .3)
-          (and-no-right _ (⊎-elim (λ w. and-no-right _ (→isnt (w .4 .left)))
-          (⊎-elim (λ w. and-no-left _ (and-no-right _ (→isnt (w .2 .left)))) (λ w. and-no-left _ (and-no-left _ (→isnt (w .left))))) (c .if1 .came))),
+      inv .2,
+      none-next _ _ (inv .3) (and-no-right _ (⊎-elim (λ w. other-object step _ _ (w .4 .left)) (⊎-elim (λ w. other-writer step _ _ (w .2 .left)) (λ w. no-write step _ _ (w .left))) (c .if1 .came))),
     )
 
 returns-2 : tie.Need-returns-2 Inv-loop μ-loop
-returns-2 c = let e : c .before .loop .i ≡ c .before .before .args .to = omega arith in sym (rw e at (c .before .loop .inv .3))
+returns-2 c = let e : c .before .loop .i ≡ c .before .before .before .args .to = omega arith in sym (rw e at (c .before .loop .inv .3))
 
 pub writes-within-spec : {M : Type 1} → statement M
 writes-within-spec =
@@ -87,17 +60,7 @@ writes-within-spec =
     Inv-loop
     μ-loop
     loop-holds
-    mul-if1
-    mul-if1-2
-    shared-slice-read-if1
-    mul-if2
-    add-if2
-    mul-if2-2
-    shared-slice-read-if2
-    mul-if3
-    add-if3
-    mul-if3-2
-    shared-slice-read-if3
+    step-at-requires
     returns
     add-i
     loop-less

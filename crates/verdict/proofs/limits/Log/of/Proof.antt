@@ -5,8 +5,6 @@ use Rattle.words.proofs.Truth.{→upto, →not-upto, if-true, if-false}
 use Rattle.verdict.specs.Limits.{make-log}
 use Rattle.verdict.proofs.limits.Log.of.Statement.{statement}
 use Rattle.verdict.proofs.limits.Log.of.Tie as tie
-use Rattle.verdict.proofs.limits.Log.of.Reads as reads
-use Rattle.verdict.proofs.limits.Log.of.Lts as lts
 
 -- src/lib.rt:77:13
 returns : tie.Need-returns

@@ -5,8 +5,6 @@ use Rattle.words.proofs.Truth.{→below, →not-below, if-true, if-false}
 use Rattle.verdict.specs.Limits.{make-object}
 use Rattle.verdict.proofs.limits.Object.of.Statement.{statement}
 use Rattle.verdict.proofs.limits.Object.of.Tie as tie
-use Rattle.verdict.proofs.limits.Object.of.Reads as reads
-use Rattle.verdict.proofs.limits.Object.of.Lts as lts
 
 -- src/lib.rt:52:13
 returns : tie.Need-returns

@@ -5,8 +5,6 @@ use Rattle.words.proofs.Truth.{→and, and-no-left, and-no-right, →upto, →n
 use Rattle.verdict.specs.Limits.{make-transaction}
 use Rattle.verdict.proofs.limits.Transaction.of.Statement.{statement}
 use Rattle.verdict.proofs.limits.Transaction.of.Tie as tie
-use Rattle.verdict.proofs.limits.Transaction.of.Reads as reads
-use Rattle.verdict.proofs.limits.Transaction.of.Lts as lts
 
 -- src/lib.rt:24:13
 returns : tie.Need-returns

@@ -1,0 +1,144 @@
+-- The parts that the header's macros take of a C call's number: they are the numbers of an answer that the call allows, and these tell the answer.
+use mathlib.Core.Path.{_≡_, refl, sym, ap, _∙_}
+use mathlib.Core.List.{List}
+use Prim.Native.Nat.{ℕ, _/_, _%_}
+use native.Mathlib.Omega.{arith}
+use Rattle.words.specs.Tests.{_is_, if_then_else_}
+use Rattle.verdict.specs.Call.{CleanCall, SnapshotCall, ConflictCall, VersionCall, ExactCall, NextCall}
+use Rattle.verdict.specs.declared.answers.Fault.{Fault}
+use Rattle.verdict.specs.declared.answers.Fault.the-variants.{Aborted, Unfinal}
+use Rattle.verdict.specs.declared.answers.Cleanness.the-variants as cleanness
+use Rattle.verdict.specs.declared.answers.Snapshot.the-variants as snapshot
+use Rattle.verdict.specs.declared.answers.Answer.the-variants as answer
+use Rattle.verdict.specs.declared.answers.CleanAnswer.{CleanAnswer}
+use Rattle.verdict.specs.declared.answers.CleanAnswer.the-variants as clean-answer
+use Rattle.verdict.specs.declared.answers.SnapshotAnswer.{SnapshotAnswer}
+use Rattle.verdict.specs.declared.answers.SnapshotAnswer.the-variants as snapshot-answer
+use Rattle.verdict.specs.declared.answers.WitnessAnswer.{WitnessAnswer}
+use Rattle.verdict.specs.declared.answers.WitnessAnswer.the-variants as witness-answer
+use Rattle.text.specs.ReadCall.{ReadCall}
+use Rattle.text.specs.ReportCall.{ReportCall}
+use Rattle.text.specs.declared.TextAnswer.{TextAnswer}
+use Rattle.text.specs.declared.TextAnswer.the-variants as text-answer
+use Rattle.exports.specs.Packed.{Numbers, fault-numbers, clean-numbers, snapshot-numbers, witness-numbers, text-numbers, packed, Packs, packs}
+use Rattle.exports.proofs.Values.{Short, clean-short, snapshot-short, conflict-short, version-short, exact-short, next-short, read-short, report-short}
+
+-- the header's macros
+unfoldable pub kind-of : ℕ → ℕ
+kind-of r = r % 65536
+
+unfoldable pub first-of : ℕ → ℕ
+first-of r = r / 65536 % 65536
+
+unfoldable pub second-of : ℕ → ℕ
+second-of r = r / 65536 / 65536 % 65536
+
+-- THE PARTS ARE THE NUMBERS OF AN ANSWER THAT THE CALL ALLOWS
+abbrev pub Parts : {A : Type 0} → (A → Type 0) → (A → Numbers) → ℕ → Type 0
+Parts {A} call numbers r = (a : A) × call a × (kind-of r ≡ numbers a .kind) × (first-of r ≡ numbers a .first) × (second-of r ≡ numbers a .second)
+
+pub parts-told : {A : Type 0} {call : A → Type 0} {numbers : A → Numbers} {r : ℕ} → ((a : A) → call a → Short (numbers a)) → Packs call numbers r → Parts call numbers r
+unfolding kind-of first-of second-of packed
+parts-told {numbers} short (packs a c e) =
+    let h = short a c in
+    let i = h .kind-short in
+    let j = h .first-short in
+    let k = h .second-short in
+    (a, c, omega arith, omega arith, omega arith)
+
+module _ (log : List ℕ) {work work′ : List ℕ} {r : ℕ} where
+  pub clean-parts : Packs (λ a. CleanCall log work a work′) clean-numbers r → Parts (λ a. CleanCall log work a work′) clean-numbers r
+  clean-parts = parts-told (λ a c. clean-short log work c)
+
+  pub snapshot-parts : Packs (λ a. SnapshotCall log work a work′) snapshot-numbers r → Parts (λ a. SnapshotCall log work a work′) snapshot-numbers r
+  snapshot-parts = parts-told (λ a c. snapshot-short log work c)
+
+module _ (log : List ℕ) {work witness work′ witness′ : List ℕ} {r : ℕ} where
+  pub conflict-parts : Packs (λ a. ConflictCall log work witness a work′ witness′) witness-numbers r → Parts (λ a. ConflictCall log work witness a work′ witness′) witness-numbers r
+  conflict-parts = parts-told (λ a c. conflict-short work witness log c)
+
+  pub version-parts : Packs (λ a. VersionCall log work witness a work′ witness′) witness-numbers r → Parts (λ a. VersionCall log work witness a work′ witness′) witness-numbers r
+  version-parts = parts-told (λ a c. version-short work witness log c)
+
+  pub exact-parts : Packs (λ a. ExactCall log work witness a work′ witness′) witness-numbers r → Parts (λ a. ExactCall log work witness a work′ witness′) witness-numbers r
+  exact-parts = parts-told (λ a c. exact-short work witness log c)
+
+  pub next-parts : (handed-in : List ℕ) → Packs (λ a. NextCall log handed-in work witness a work′ witness′) witness-numbers r
+      → Parts (λ a. NextCall log handed-in work witness a work′ witness′) witness-numbers r
+  next-parts handed-in = parts-told (λ a c. next-short work witness log handed-in c)
+
+module _ {text buffer buffer′ : List ℕ} {r : ℕ} where
+  pub read-parts : Packs (λ a. ReadCall text buffer a buffer′) text-numbers r → Parts (λ a. ReadCall text buffer a buffer′) text-numbers r
+  read-parts = parts-told (λ a c. read-short c)
+
+  pub report-parts : Packs (λ a. ReportCall text buffer a buffer′) text-numbers r → Parts (λ a. ReportCall text buffer a buffer′) text-numbers r
+  report-parts = parts-told (λ a c. report-short buffer c)
+
+-- THE NUMBERS TELL THE ANSWER
+-- what has a way back is told apart
+apart : {A : Type 0} (numbers : A → Numbers) (back : Numbers → A) → ((a : A) → back (numbers a) ≡ a) → {a b : A} → numbers a ≡ numbers b → a ≡ b
+apart numbers back h {a} {b} e = sym (h a) ∙ ap back e ∙ h b
+
+fault-back : Numbers → Fault
+fault-back n = if n .kind is 4 then Aborted (n .first) else Unfinal (n .first)
+
+pub clean-numbers-one : {a b : CleanAnswer} → clean-numbers a ≡ clean-numbers b → a ≡ b
+unfolding clean-numbers fault-numbers fault-back if_then_else_ _is_
+clean-numbers-one = apart clean-numbers back told
+  where
+    back : Numbers → CleanAnswer
+    back n =
+        if n .kind is 0 then clean-answer.Refused (n .first) (n .second)
+        else if n .kind is 7 then clean-answer.Judged cleanness.Yes else clean-answer.Judged (cleanness.Unclean (fault-back n))
+
+    told : (a : CleanAnswer) → back (clean-numbers a) ≡ a
+    told (clean-answer.Refused n p) = refl
+    told (clean-answer.Judged cleanness.Yes) = refl
+    told (clean-answer.Judged (cleanness.Unclean (Aborted k))) = refl
+    told (clean-answer.Judged (cleanness.Unclean (Unfinal k))) = refl
+
+pub snapshot-numbers-one : {a b : SnapshotAnswer} → snapshot-numbers a ≡ snapshot-numbers b → a ≡ b
+unfolding snapshot-numbers if_then_else_ _is_
+snapshot-numbers-one = apart snapshot-numbers back told
+  where
+    back : Numbers → SnapshotAnswer
+    back n =
+        if n .kind is 0 then snapshot-answer.Refused (n .first) (n .second)
+        else if n .kind is 7 then snapshot-answer.Judged snapshot.Yes
+        else if n .kind is 8 then snapshot-answer.Judged (snapshot.Read (n .first)) else snapshot-answer.Judged (snapshot.Write (n .first) (n .second))
+
+    told : (a : SnapshotAnswer) → back (snapshot-numbers a) ≡ a
+    told (snapshot-answer.Refused n p) = refl
+    told (snapshot-answer.Judged snapshot.Yes) = refl
+    told (snapshot-answer.Judged (snapshot.Read k)) = refl
+    told (snapshot-answer.Judged (snapshot.Write k t)) = refl
+
+pub witness-numbers-one : {a b : WitnessAnswer} → witness-numbers a ≡ witness-numbers b → a ≡ b
+unfolding witness-numbers fault-numbers fault-back if_then_else_ _is_
+witness-numbers-one = apart witness-numbers back told
+  where
+    back : Numbers → WitnessAnswer
+    back n =
+        if n .kind is 0 then witness-answer.Refused (n .first) (n .second)
+        else if n .kind is 1 then witness-answer.Judged (answer.Order (n .first))
+        else if n .kind is 2 then witness-answer.Judged (answer.Cycle (n .first))
+        else if n .kind is 3 then witness-answer.Judged answer.None else witness-answer.Judged (answer.Unclean (fault-back n))
+
+    told : (a : WitnessAnswer) → back (witness-numbers a) ≡ a
+    told (witness-answer.Refused n p) = refl
+    told (witness-answer.Judged (answer.Order n)) = refl
+    told (witness-answer.Judged (answer.Cycle n)) = refl
+    told (witness-answer.Judged answer.None) = refl
+    told (witness-answer.Judged (answer.Unclean (Aborted k))) = refl
+    told (witness-answer.Judged (answer.Unclean (Unfinal k))) = refl
+
+pub text-numbers-one : {a b : TextAnswer} → text-numbers a ≡ text-numbers b → a ≡ b
+unfolding text-numbers if_then_else_ _is_
+text-numbers-one = apart text-numbers back told
+  where
+    back : Numbers → TextAnswer
+    back n = if n .kind is 0 then text-answer.Refused (n .first) (n .second) else text-answer.Accepted (n .first)
+
+    told : (a : TextAnswer) → back (text-numbers a) ≡ a
+    told (text-answer.Refused n p) = refl
+    told (text-answer.Accepted n) = refl

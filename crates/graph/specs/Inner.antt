@@ -1,0 +1,4 @@
+-- What the private functions find, one idea a file. No public contract cites these.
+pub mod Peel
+pub mod Laying
+pub mod Distances

@@ -1,0 +1,5 @@
+-- What the private functions promise each other. No public contract cites these.
+pub mod Finds
+pub mod Put
+pub mod Told
+pub mod ReadsCall

@@ -1,0 +1,41 @@
+-- `judge` meets its contract.
+use mathlib.Core.Path.{sym, _∙_}
+use borrow.Author.Needs.{needs}
+use Rattle.verdict.specs.Judgement.{refused, judged}
+use Rattle.verdict.proofs.all_verdicts.judge.Statement.{statement}
+use Rattle.verdict.proofs.all_verdicts.judge.Tie as tie
+
+check-requires : tie.Need-check-requires
+check-requires c κs = search needs
+
+enum-known-checked : tie.Need-enum-known-checked
+enum-known-checked c = search needs
+
+refused-alone-requires : tie.Need-refused-alone-requires
+refused-alone-requires c κs = search needs
+
+enum-told : tie.Need-enum-told
+enum-told c = search needs
+
+judge-all-requires : tie.Need-judge-all-requires
+judge-all-requires c κs = sym (c .before .before .check .ensures) ∙ c .enum-told .given .1
+
+returns : tie.Need-returns
+returns c =
+    let known = c .before .before in
+    refused _ _ (sym (known .before .before .check .ensures) ∙ known .checked .given .1) (c .refused-alone .ensures)
+
+returns-2 : tie.Need-returns-2
+returns-2 c = judged (sym (c .before .before .before .check .ensures) ∙ c .before .enum-told .given .1) (c .judge-all .ensures)
+
+pub judge-spec : {M : Type 1} → statement M
+judge-spec =
+    tie.close
+    (tie.spec
+    check-requires
+    enum-known-checked
+    refused-alone-requires
+    enum-told
+    judge-all-requires
+    returns
+    returns-2)

@@ -1,0 +1,9 @@
+-- The kinds of a dependency: 1 from a write to a write, 2 from a write to a read, 3 from a read to a write. Each is on an object.
+use mathlib.Core.Bool.{Bool}
+use Prim.Native.Nat.{ℕ}
+use Rattle.words.specs.Tests.{some}
+use Rattle.verdict.specs.Limits.{objects}
+
+-- one of some kind on some object
+unfoldable pub some-dependency : (ℕ → ℕ → Bool) → Bool
+some-dependency on = some objects (λ x. some 4 (λ k. on x k))

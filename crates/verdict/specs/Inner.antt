@@ -1,0 +1,12 @@
+-- What the private functions promise each other. No public contract cites these.
+pub mod StepAt
+pub mod Marks
+pub mod Checking
+pub mod LastWrites
+pub mod Clashes
+pub mod Edges
+pub mod ConflictEdges
+pub mod VersionEdges
+pub mod Leaving
+pub mod Following
+pub mod Placing
