@@ -1,5 +1,6 @@
-//! The commands: report, orders, graphs, make, histogram.
+//! The commands: report, orders, graphs, make, every, histogram.
 
+mod every;
 mod graph;
 mod graphs;
 mod histogram;
@@ -23,6 +24,7 @@ const USAGE: &str = "second report [FILE ..]
 second orders [--most N] [FILE ..]
 second graphs
 second make small|damaged|texts|limits SEED COUNT DIR
+second every [--count] STEPS TRANSACTIONS OBJECTS
 second histogram SEED COUNT";
 
 fn main() -> ExitCode {
@@ -59,12 +61,30 @@ fn run(args: &[OsString], out: &mut dyn Write) -> io::Result<bool> {
                 _ => usage(),
             }
         }
+        ["every", "--count", steps, transactions, objects] => {
+            match bounds(steps, transactions, objects) {
+                Some(bounds) => writeln!(out, "{}", every::count_all(&bounds)).map(|_| true),
+                None => usage(),
+            }
+        }
+        ["every", steps, transactions, objects] => match bounds(steps, transactions, objects) {
+            Some(bounds) => every::write_all(&bounds, out).map(|_| true),
+            None => usage(),
+        },
         ["histogram", seed, count] => match (seed.parse(), count.parse()) {
             (Ok(seed), Ok(count)) => histogram(seed, count, out),
             _ => usage(),
         },
         _ => usage(),
     }
+}
+
+fn bounds(steps: &str, transactions: &str, objects: &str) -> Option<every::Bounds> {
+    Some(every::Bounds {
+        steps: steps.parse().ok()?,
+        transactions: transactions.parse().ok()?,
+        objects: objects.parse().ok()?,
+    })
 }
 
 fn usage() -> io::Result<bool> {

@@ -3,6 +3,7 @@
 
 mod agreement;
 mod damage;
+mod every;
 mod graphs;
 mod made;
 mod points;
