@@ -26,6 +26,7 @@ pub mod VersionGraph
 pub mod Some
 pub mod Memberless
 pub mod Searching
+pub mod SearchTables
 pub mod Searched
 pub mod Only
 pub mod Bounds

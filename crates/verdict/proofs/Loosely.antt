@@ -12,19 +12,19 @@ use Rattle.words.specs.Tests.{_is_, _below_, _and_, _or_, _implies_, fails, if_
 use Rattle.words.specs.Lists.{member, distinct}
 use Rattle.words.specs.First.{dictionary, First, Never}
 use Rattle.graph.specs.Order.{once-each}
-use Rattle.words.proofs.Truth.{decide, not-both, to-false, to-true, and→, →and, and-true, and-true-right, and-no-left, and-no-right, →or-left, →or-right, or-false, fails→, →fails, →not-fails, implies→, →implies, is→, →is, isnt→, →isnt, below→, →below, not-below→, if-true, if-false, every→, →every, some→, count-none, count-same, count-without, none-counted}
+use Rattle.words.proofs.Truth.{decide, not-both, to-false, to-true, and→, →and, and-true-right, and-no-left, and-no-right, →or-left, →or-right, or-false, fails→, →fails, →not-fails, implies→, →implies, is→, →is, isnt→, →isnt, below→, →below, not-below→, if-true, if-false, every→, →every, some→, count-none, count-same, count-without, none-counted}
 use Rattle.words.proofs.Places.{member→, member-head, member-tail, all→, →all, distinct→, member-left, member-right, member-either}
 use Rattle.words.proofs.Dictionary.{dictionary-not}
 use Rattle.verdict.specs.Limits.{transactions, objects}
-use Rattle.verdict.specs.Log.{steps, kind, tx, obj, src, reads, committed, writer}
+use Rattle.verdict.specs.Log.{steps, tx, obj, src, committed, writer}
 use Rattle.verdict.specs.Clean.{judged, judged-other, is-clean}
 use Rattle.verdict.specs.Replay.{finds, reads-right, serial, explains-loosely}
 use Rattle.verdict.specs.Inner.Marks.{Marked}
 use Rattle.verdict.specs.Inner.Placing.{barred, needing, allows, needs-source, need, ran, Needs, Writes, Placed, Searched, found, missed}
 use Rattle.verdict.proofs.WellFormed.{Well}
 use Rattle.verdict.proofs.Versions.{committed-range}
-use Rattle.verdict.proofs.Marks.{ones, mark-clear}
-use Rattle.verdict.proofs.JudgedReads.{judged-read, reader-fails}
+use Rattle.verdict.proofs.Marks.{mark-clear}
+use Rattle.verdict.proofs.JudgedReads.{is-read}
 
 implies-true : {a b : Bool} → a ≡ true → (a implies b) ≡ b
 unfolding _implies_
@@ -111,16 +111,9 @@ module _ (log : List ℕ) (t x : ℕ) where
     unfolding needs-source
     needs-none-elsewhere n = and-no-right _ (→isnt n)
 
-    needs-judged : judged-other log i ≡ true → tx log i ≡ t → obj log i ≡ x → needs-source log t x i ≡ true
+    pub needs-judged : judged-other log i ≡ true → tx log i ≡ t → obj log i ≡ x → needs-source log t x i ≡ true
     unfolding needs-source
     needs-judged j e f = →and (→and j (→is e)) (→is f)
-
-    pub needs-if-committed : kind log i ≡ 2 → tx log i ≡ t → obj log i ≡ x → (src log i ≡ t → ⊥) → needs-source log t x i ≡ committed log t
-    needs-if-committed k e f n = go (decide (committed log (tx log i)))
-      where
-        go : (committed log (tx log i) ≡ true) ⊎ (committed log (tx log i) ≡ false) → needs-source log t x i ≡ committed log t
-        go (inl c) = needs-judged (judged-read log i k (λ (q : src log i ≡ tx log i). n (q ∙ e)) c) e f ∙ sym (rw e at c)
-        go (inr c) = needs-none-unjudged (reader-fails log i c) ∙ sym (rw e at c)
 
 -- WHAT A BEGINNING FINDS
 module _ (log : List ℕ) (x : ℕ) where
@@ -182,16 +175,12 @@ distinct-more t (a ∷ p) d m =
 
 -- PLACING ONE MORE
 module _ (log : List ℕ) (well : Well transactions log) where
-  is-read : (i : ℕ) → judged-other log i ≡ true → kind log i ≡ 2
-  unfolding judged-other judged reads
-  is-read i j = is→ (and→ (and→ j .0) .0)
-
   needs→ : (t x i : ℕ) → needs-source log t x i ≡ true → (judged-other log i ≡ true) × (tx log i ≡ t) × (obj log i ≡ x)
   unfolding needs-source
   needs→ t x i k = let r = and→ (and→ k .0) in (r .0, is→ (r .1), is→ (and→ k .1))
 
   pub source-range : (t x i : ℕ) → i < steps log → needs-source log t x i ≡ true → src log i ≤ transactions
-  source-range t x i h k = well .sources i h (is-read i (needs→ t x i k .0))
+  source-range t x i h k = well .sources i h (is-read log i (needs→ t x i k .0))
 
   reads-its-source : (w : List ℕ) → explains-loosely transactions log w ≡ true → (i : ℕ) → i < steps log → judged-other log i ≡ true → finds log (obj log i) (tx log i) 0 w ≡ src log i
   unfolding explains-loosely reads-right
@@ -225,7 +214,7 @@ module _ (log : List ℕ) (well : Well transactions log) where
           new e =
               let x : ℕ = obj log i in
               let a : needs-source log t x i ≡ true = unfold needs-source in (→and (→and j (→is e)) (→is refl)) in
-              let q = implies→ (every→ _ (sym (allowed t x) ∙ f x (well .object i h (inl (is-read i j)))) i h) a in
+              let q = implies→ (every→ _ (sym (allowed t x) ∙ f x (well .object i h (inl (is-read log i j)))) i h) a in
               subst (λ (r : ℕ). finds log x r 0 (p ++ t ∷ []) ≡ src log i) (sym e) (finds-behind log x t 0 p [] n ∙ is→ q)
 
       pub placed-more : ((x : ℕ) → x < objects → allows (need log t x (steps log)) (ran log x 0 p) ≡ true) → (free′ last′ : List ℕ)
@@ -304,22 +293,6 @@ pair-row t x h = omega arith
 
 pub pair-column : (t x : ℕ) → x < objects → (t * objects + x) % objects ≡ x
 pair-column t x h = omega arith
-
-module _ (log marks : List ℕ) (m : Marked (suc transactions) (committed log) marks) where
-  pub needs-from : (table : List ℕ) → ((u : ℕ) → u < 8256 → getD table u 0 ≡ (if fails (getD marks (u / objects) 0 is 0) then need log (u / objects) (u % objects) (steps log) else 0)) → Needs log table
-  needs-from table f =
-      record {
-        entry = λ (t x : ℕ) c (h : t ≤ transactions) (k : x < objects).
-            f (t * objects + x) (omega arith) ∙ rw (pair-row t x k, pair-column t x k) (if-true _ _ (m .mark t (omega arith) ∙ c));
-      }
-
-  pub writes-from : (table : List ℕ) → ((u : ℕ) → u < 8256 → getD table u 0 ≡ (if fails (getD marks (u / objects) 0 is 0) and writer log (u % objects) (u / objects) then 1 else 0)) → Writes log table
-  writes-from table f =
-      record {
-        entry = λ (t x : ℕ) c (h : t ≤ transactions) (k : x < objects).
-            ones (λ u. fails (getD marks (u / objects) 0 is 0) and writer log (u % objects) (u / objects)) {marks = table} f .mark (t * objects + x) (omega arith)
-            ∙ rw (pair-row t x k, pair-column t x k) (and-true (m .mark t (omega arith) ∙ c));
-      }
 
 -- THE SEARCH, STEP BY STEP
 module _ (log : List ℕ) (well : Well transactions log) (p free last : List ℕ) (placed : Placed log p free last) where

@@ -7,43 +7,37 @@ use crate::limits::Transaction;
 use crate::step::Step;
 use crate::step::step_at;
 use crate::walk::index;
+use crate::walk::marked;
 use crate::walk::seen;
-use crate::walk::writes_within;
 ghost use mathlib.Core.Path.{_≡_};
 ghost use mathlib.Core.Bool.{true};
 ghost use Prim.Native.Nat.{ℕ, suc, _≤_, _<_, _+_, _*_};
 ghost use lib.ListN.{length, getD, take};
 ghost use Rattle.words.specs.Tests.{_is_, fails, every, count, if_then_else_};
 ghost use Rattle.verdict.specs.Limits.{transactions, objects, most-searched};
-ghost use Rattle.verdict.specs.Log.{steps, committed, committed-count};
+ghost use Rattle.verdict.specs.Log.{committed, committed-count};
 ghost use Rattle.verdict.specs.Refusal.{log-refusal};
-ghost use Rattle.verdict.specs.Clean.{is-clean};
+ghost use Rattle.verdict.specs.Clean.{judged-other, is-clean};
 ghost use Rattle.words.specs.Lists.{entries};
 ghost use Rattle.verdict.specs.Judgement.{Holds};
 ghost use Rattle.verdict.specs.Exact.{Exact};
 ghost use Rattle.verdict.specs.Inner.Marks.{Marked};
-ghost use Rattle.verdict.specs.Inner.Placing.{needing, allows, needs-source, need, Needs, Writes, Placed, Searched};
+ghost use Rattle.verdict.specs.Inner.Placing.{needing, allows, Needs, Writes, Placed, Searched};
 ghost use Rattle.verdict.specs.declared.answers.Checked.the-variants.{Passed};
 
-// Whether step i is a judged read of x by t from another.
-fn needs_source(log: &[u16], t: u16, x: u16, i: usize) -> bool
-    requires { ⌜ 4 * i + 4 ≤ length (now log) ⌝ }
-    ensures { λ r. ⌜ r ≡ needs-source (now (log .entry)) t x i ⌝ }
+// Whether step i is a judged read from another, by who committed.
+fn judged_other(log: &[u16], marks: &[u8; Transaction::TABLE], i: usize) -> bool
+    requires { ⌜ (log-refusal (now log) ≡ Passed) × (4 * i + 4 ≤ length (now log)) × Marked (suc transactions) (committed (now log)) (now marks) ⌝ }
+    ensures { λ r. ⌜ r ≡ judged-other (now (log .entry)) i ⌝ }
 {
     let step = step_at(log, i);
     if step.kind != Step::READ {
         return false;
     }
-    if step.tx != t {
+    if step.src == step.tx {
         return false;
     }
-    if step.obj != x {
-        return false;
-    }
-    if step.src == t {
-        return false;
-    }
-    seen(log, log.len() / 4, Step::COMMIT, t)
+    marked(marks, step.tx)
 }
 
 // The need with one more source.
@@ -58,24 +52,6 @@ fn with_source(e: u16, s: u16) -> u16
         return e;
     }
     255
-}
-
-// What t needs to find of x.
-fn needed(log: &[u16], t: u16, x: u16) -> u16
-    requires { ⌜ log-refusal (now log) ≡ Passed ⌝ }
-    ensures { λ r. ⌜ r ≡ need (now (log .entry)) t x (steps (now (log .entry))) ⌝ }
-{
-    let n = log.len() / 4;
-    let mut e: u16 = 0;
-    let mut i = 0;
-    while i < n {
-        if needs_source(log, t, x, i) {
-            let step = step_at(log, i);
-            e = with_source(e, step.src);
-        }
-        i += 1;
-    }
-    e
 }
 
 // The marks of the committed transactions.
@@ -116,42 +92,38 @@ fn need_table(log: &[u16], marks: &[u8; Transaction::TABLE]) -> [u16; Transactio
     requires { ⌜ (log-refusal (now log) ≡ Passed) × Marked (suc transactions) (committed (now log)) (now marks) ⌝ }
     ensures { λ r. ⌜ Needs (now (log .entry)) r ⌝ }
 {
+    let n = log.len() / 4;
     let mut table = [0u16; Transaction::PAIRS];
-    let mut k: usize = 0;
-    while k < Transaction::PAIRS {
-        let mut e: u16 = 0;
-        if marks[k / Object::TABLE] != 0 {
-            e = needed(log, (k / Object::TABLE) as u16, (k % Object::TABLE) as u16);
+    let mut i = 0;
+    while i < n {
+        if judged_other(log, marks, i) {
+            let step = step_at(log, i);
+            let row = index(step.tx);
+            let column = index(step.obj);
+            let k = row * Object::TABLE + column;
+            table[k] = with_source(table[k], step.src);
         }
-        table[k] = e;
-        k += 1;
+        i += 1;
     }
     table
 }
 
-// Which objects each committed transaction writes.
-fn write_table(log: &[u16], marks: &[u8; Transaction::TABLE]) -> [u8; Transaction::PAIRS]
-    requires { ⌜ Marked (suc transactions) (committed (now log)) (now marks) ⌝ }
+// Which objects each transaction writes.
+fn write_table(log: &[u16]) -> [u8; Transaction::PAIRS]
+    requires { ⌜ log-refusal (now log) ≡ Passed ⌝ }
     ensures { λ r. ⌜ Writes (now (log .entry)) r ⌝ }
 {
     let n = log.len() / 4;
     let mut table = [0u8; Transaction::PAIRS];
-    let mut k: usize = 0;
-    while k < Transaction::PAIRS {
-        let mut e: u8 = 0;
-        if marks[k / Object::TABLE] != 0 {
-            if writes_within(
-                log,
-                0,
-                n,
-                (k / Object::TABLE) as u16,
-                (k % Object::TABLE) as u16,
-            ) {
-                e = 1;
-            }
+    let mut i = 0;
+    while i < n {
+        let step = step_at(log, i);
+        if step.kind == Step::WRITE {
+            let row = index(step.tx);
+            let column = index(step.obj);
+            table[row * Object::TABLE + column] = 1;
         }
-        table[k] = e;
-        k += 1;
+        i += 1;
     }
     table
 }
@@ -273,7 +245,7 @@ pub(crate) fn find_order(log: &[u16]) -> Witnessed
 {
     let marks = committed_marks(log);
     let need = need_table(log, &marks);
-    let writes = write_table(log, &marks);
+    let writes = write_table(log);
     let left = count_marks(&marks);
     let last = [0u16; Object::TABLE];
     let placed = [0u16; Transaction::SEARCHED];

@@ -6,7 +6,7 @@ use crate::step::step_at;
 ghost use mathlib.Core.Path.{_≡_};
 ghost use Prim.Native.Nat.{suc, _≤_, _<_, _+_, _*_};
 ghost use lib.ListN.{length, getD};
-ghost use Rattle.words.specs.Tests.{_is_, _upto_, _and_, fails, some, lowest};
+ghost use Rattle.words.specs.Tests.{_is_, fails, some, lowest};
 ghost use Rattle.verdict.specs.Limits.{transactions, objects};
 ghost use Rattle.verdict.specs.Log.{steps, writes, writer, committed-count};
 ghost use Rattle.verdict.specs.Refusal.{log-refusal};
@@ -54,26 +54,6 @@ pub(crate) fn first_step(log: &[u16], k: u16, t: u16) -> usize
     ensures { λ r. ⌜ r ≡ lowest (steps (now (log .entry))) (does (now (log .entry)) k t) ⌝ }
 {
     first_before(log, log.len() / 4, k, t)
-}
-
-// Whether t writes x in a step of these: `from` is the first of them, and `to` is behind the last.
-pub(crate) fn writes_within(log: &[u16], from: usize, to: usize, t: u16, x: u16) -> bool
-    requires { ⌜ (from ≤ to) × (4 * to ≤ length (now log)) ⌝ }
-    ensures { λ r. ⌜ r ≡ some to (λ j. from upto j and writes (now (log .entry)) t x j) ⌝ }
-{
-    let mut i = from;
-    while i < to {
-        let step = step_at(log, i);
-        if step.kind == Step::WRITE {
-            if step.tx == t {
-                if step.obj == x {
-                    return true;
-                }
-            }
-        }
-        i += 1;
-    }
-    false
 }
 
 // Whether the mark of t is set.

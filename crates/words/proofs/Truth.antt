@@ -337,10 +337,6 @@ pub every-next : (i : ℕ) (p : ℕ → Bool) → every (i + 1) p ≡ (every i p
 unfolding every
 every-next i p = rw (add-one i) refl
 
--- a question over all numbers below n is one over those from 0 on
-pub from-first : (n : ℕ) (p : ℕ → Bool) → some n p ≡ some n (λ i. 0 upto i and p i)
-from-first n p = some-same n p (λ i. 0 upto i and p i) (λ i h. sym (and-true (→upto (omega arith))))
-
 -- the highest: one number more
 pub highest-yes : (n : ℕ) (p : ℕ → Bool) → p n ≡ true → highest (suc n) p ≡ n
 unfolding highest

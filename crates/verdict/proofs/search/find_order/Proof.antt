@@ -19,7 +19,7 @@ abbrev marked : tie.After-need-table → tie.After-committed-marks
 marked c = c .before .before
 
 abbrev need-known : tie.After-write-table → tie.After-need-table
-need-known c = c .before .before
+need-known c = c .before
 
 abbrev writes-known : tie.After-count-marks → tie.After-write-table
 writes-known c = c .before .before
