@@ -27,7 +27,6 @@ pub mod Some
 pub mod Memberless
 pub mod Searching
 pub mod SearchTables
-pub mod Searched
 pub mod Only
 pub mod Bounds
 pub mod HandedIn

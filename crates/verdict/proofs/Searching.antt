@@ -1,18 +1,19 @@
 -- The exact search from its beginning to its answer.
 use mathlib.Core.Path.{_≡_, refl, sym, ap, subst, _∙_}
 use mathlib.Core.Bool.{true, false, false≢true}
+use mathlib.Core.Logic.{_⊎_, inl, inr}
 use mathlib.Core.List.{List, [], _∷_, _++_}
 use Prim.Native.Nat.{ℕ, suc, _+_, _-_, _≤_, _<_}
 use native.Mathlib.Omega.{arith}
 use lib.ListN.{length, getD, set, take, replicate, getD-replicate}
 use lib.Seq.{length-take-le, take-suc}
 use native.Mathlib.Numerals.{add-one}
-use Rattle.words.specs.Tests.{_is_, fails, count}
+use Rattle.words.specs.Tests.{_is_, _below_, fails, count}
 use Rattle.words.specs.Lists.{member, all, distinct, zeros, entries}
 use Rattle.words.specs.First.{dictionary, First}
 use Rattle.verdict.specs.Outcome.{order, none, said, members}
 use Rattle.verdict.specs.Judgement.{Holds}
-use Rattle.words.proofs.Truth.{and-true-right, →fails, →below, →not-below, count-same}
+use Rattle.words.proofs.Truth.{decide, and-true-right, →fails, →below, →not-below, not-below→, count-same}
 use Rattle.verdict.specs.Limits.{transactions, most-searched}
 use Rattle.verdict.specs.Log.{committed, committed-count}
 use Rattle.verdict.specs.declared.answers.Checked.the-variants.{Passed, Refused}
@@ -25,7 +26,7 @@ use Rattle.verdict.specs.Inner.Placing.{ran, Placed, Searched, found, mi
 use Rattle.verdict.specs.declared.answers.Answer.the-variants.{Order}
 use Rattle.verdict.proofs.Refused.{when-yes, when-no}
 use Rattle.verdict.proofs.Cleanly.{clean-cleanness}
-use Rattle.verdict.proofs.WellFormed.{well-formed}
+use Rattle.verdict.proofs.WellFormed.{refused≢passed, when→, well-formed}
 use Rattle.verdict.proofs.Counted.{committed-fit}
 
 -- no more are left than the search takes
@@ -71,6 +72,22 @@ search-over log h = when-yes 13 (committed-count log) (→below h)
 pub search-within : (log : List ℕ) → committed-count log ≤ most-searched → search-refusal log ≡ Passed
 unfolding search-refusal
 search-within log h = when-no 13 (committed-count log) (→not-below h)
+
+-- the search turns away with 13 alone, and takes no more than it can
+pub search-13 : (log : List ℕ) {n p : ℕ} → search-refusal log ≡ Refused n p → search-refusal log ≡ Refused 13 p
+unfolding search-refusal
+search-13 log {n} {p} e = go (decide (most-searched below committed-count log))
+  where
+    go : ((most-searched below committed-count log) ≡ true) ⊎ ((most-searched below committed-count log) ≡ false) → search-refusal log ≡ Refused 13 p
+    go (inl b) =
+        let f : Refused 13 (committed-count log) ≡ Refused n p = sym (when-yes 13 (committed-count log) b) ∙ e in
+        let g : committed-count log ≡ p = cc in
+        when-yes 13 (committed-count log) b ∙ ap (Refused 13) g
+    go (inr b) = absurd (refused≢passed (sym e ∙ when-no 13 (committed-count log) b))
+
+pub search-few : (log : List ℕ) → search-refusal log ≡ Passed → committed-count log ≤ most-searched
+unfolding search-refusal
+search-few log e = not-below→ (when→ 13 (committed-count log) _ e)
 
 -- a list written into an empty buffer, one entry more
 pub put-entry : (n : ℕ) (w : List ℕ) (v : ℕ) → length w < n → set (entries n w) (length w) v ≡ entries n (w ++ v ∷ [])

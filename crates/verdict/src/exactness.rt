@@ -18,7 +18,7 @@ ghost use mathlib.Core.Path.{_≡_};
 ghost use Prim.Native.Nat.{_≤_};
 ghost use Rattle.verdict.specs.Limits.{transactions, most-searched};
 ghost use Rattle.verdict.specs.Log.{committed-count};
-ghost use Rattle.verdict.specs.Refusal.{log-refusal};
+ghost use Rattle.verdict.specs.Refusal.{log-refusal, search-refusal};
 ghost use Rattle.verdict.specs.Clean.{cleanness};
 ghost use Rattle.verdict.specs.Judgement.{Holds, ExactIs};
 ghost use Rattle.verdict.specs.Exact.{Exact};
@@ -36,13 +36,24 @@ fn judge_search(log: &[u16], clean: Cleanness) -> Witnessed
     find_order(log)
 }
 
+// 13, where more are committed than the search takes.
+fn admit_search(log: &[u16]) -> Checked
+    ensures { λ r. ⌜ r ≡ search-refusal (now (log .entry)) ⌝ }
+{
+    let n = committed_count(log);
+    if Transaction::SEARCHED < n {
+        return Checked::Refused(13, n);
+    }
+    Checked::Passed
+}
+
 // The exact verdict of a well-formed log, by its clean verdict: over, where more are committed than the search takes.
 pub(crate) fn judge_exact(log: &[u16], clean: Cleanness) -> ExactWitnessed
     requires { ⌜ (log-refusal (now log) ≡ Passed) × (clean ≡ cleanness (now log)) ⌝ }
     ensures { λ r. ⌜ ExactIs (now (log .entry)) r ⌝ }
 {
-    let n = committed_count(log);
-    if Transaction::SEARCHED < n {
+    let admitted = admit_search(log);
+    if let Checked::Refused(_, n) = admitted {
         return exact_without_members(Exactness::Over(n));
     }
     let found = judge_search(log, clean);
@@ -62,11 +73,9 @@ pub fn exact(log: &[u16], work: &mut [u8], witness: &mut [u16]) -> WitnessAnswer
     if let Checked::Refused(number, place) = admitted {
         return WitnessAnswer::Refused(number, place);
     }
-    let found = judge_exact(log, judge_clean(log));
-    let exactness = found.exactness;
-    let list = found.list;
-    match exactness {
-        Exactness::Over(n) => WitnessAnswer::Refused(13, n),
-        Exactness::Searched(answer) => leave(work, witness, Witnessed { answer, list }),
+    let searched = admit_search(log);
+    if let Checked::Refused(number, place) = searched {
+        return WitnessAnswer::Refused(number, place);
     }
+    leave(work, witness, judge_search(log, judge_clean(log)))
 }

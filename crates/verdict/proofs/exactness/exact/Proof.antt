@@ -1,27 +1,32 @@
 -- `exact` meets its contract.
-use mathlib.Core.Path.{refl}
+use mathlib.Core.Path.{_≡_, refl, sym, _∙_}
 use borrow.Author.Needs.{needs}
-use Rattle.verdict.specs.Refusal.{log-refusal, work-refusal, witness-refusal}
+use Rattle.verdict.specs.Refusal.{log-refusal, search-refusal, work-refusal, witness-refusal}
+use Rattle.verdict.specs.declared.answers.Checked.the-variants.{Passed}
 use Rattle.verdict.proofs.Frame.{Admitted, admitted, refused-early, refused-later, admitted-later, call-left}
-use Rattle.verdict.proofs.Searched.{over-refused, searched-holds}
+use Rattle.verdict.proofs.Searching.{search-few}
 use Rattle.verdict.proofs.exactness.exact.Statement.{statement}
 use Rattle.verdict.proofs.exactness.exact.Tie as tie
 
--- the entry, from where the buffers and the log were looked at
+-- the entry, from where the buffers and the log were looked at; and that place, from where the committed were counted
 abbrev entry : tie.After-admit-witness → tie.Start
 entry c = c .before .before .before .before
+
+abbrev checked : tie.After-admit-search → tie.After-enum-told
+checked c = c .before
+
+-- the count, from the clean verdict
+abbrev counted : tie.After-judge-clean → tie.After-enum-told2
+counted c = c .before .before .before
 
 -- nothing of the log itself turns the call away
 passed : (c : tie.After-enum-told) → let start = entry (c .before .before) in Admitted (log-refusal (start .args .log .now)) (start .args .work .now) (start .args .witness .now)
 unfolding work-refusal witness-refusal
 passed c = admitted _ _ _ (c .before .before .admit-witness .ensures) (c .enum-told .given .1)
 
--- the verdict, from where it is known to be an answer; and before it the check
-abbrev found : tie.After-exactness2 → tie.After-judge-exact
-found c = c .before .before .before
-
-abbrev checked : tie.After-judge-exact → tie.After-enum-told
-checked c = c .before .before
+-- nor does how many committed
+few : (c : tie.After-enum-told2) → search-refusal (entry (checked (c .before .before) .before .before) .args .log .now) ≡ Passed
+few c = sym (c .before .before .admit-search .ensures) ∙ c .enum-told2 .given .1
 
 admit-witness-requires : tie.Need-admit-witness-requires
 admit-witness-requires c κs = search needs
@@ -36,26 +41,29 @@ returns c = refused-early _ _ refl _ (c .before .before .before .admit-witness .
 enum-told : tie.Need-enum-told
 enum-told c = search needs
 
-judge-clean-requires : tie.Need-judge-clean-requires
-judge-clean-requires c κs = passed c .well
+admit-search-requires : tie.Need-admit-search-requires
+admit-search-requires c κs = search needs
 
-judge-exact-requires : tie.Need-judge-exact-requires
-judge-exact-requires c κs = (passed (c .before) .well, c .judge-clean .ensures)
-
-enum-known-exactness : tie.Need-enum-known-exactness
-enum-known-exactness c = search needs
-
-enum-known-exactness-2 : tie.Need-enum-known-exactness-2
-enum-known-exactness-2 c = search needs
-
-leave-requires : tie.Need-leave-requires
-leave-requires c κs = passed (checked (found (c .before .before .before))) .witness-size
+enum-known-searched : tie.Need-enum-known-searched
+enum-known-searched c = search needs
 
 returns-2 : tie.Need-returns-2
 returns-2 c =
     let over = c .before in
-    let verdict = over .before .before .before in
-    refused-later _ _ refl _ (passed (checked verdict)) (over-refused (verdict .judge-exact .ensures) (over .exactness .given .1))
+    let count = over .before .before in
+    refused-later _ _ refl _ (passed (checked count)) (sym (count .admit-search .ensures) ∙ over .searched .given .1)
+
+enum-told-2 : tie.Need-enum-told-2
+enum-told-2 c = search needs
+
+judge-clean-requires : tie.Need-judge-clean-requires
+judge-clean-requires c κs = passed (checked (c .before .before .before .before)) .well
+
+judge-search-requires : tie.Need-judge-search-requires
+judge-search-requires c κs = let told = counted c in (passed (checked (told .before .before)) .well, c .judge-clean .ensures, search-few _ (few told))
+
+leave-requires : tie.Need-leave-requires
+leave-requires c κs = passed (checked (counted (c .before) .before .before)) .witness-size
 
 same-length : tie.Need-same-length
 same-length c = search needs
@@ -66,10 +74,9 @@ same-length-2 c = search needs
 returns-3 : tie.Need-returns-3
 returns-3 c =
     let left = c .before .before .before .before in
-    let answer = left .before .before .before .before in
-    let verdict = found answer in
-    let is = searched-holds (verdict .judge-exact .ensures) (answer .exactness2 .given .1) in
-    call-left (admitted-later _ _ refl (passed (checked verdict)) (is .0)) (is .1) (left .leave .ensures)
+    let verdict = left .before in
+    let told = counted (verdict .before) in
+    call-left (admitted-later _ _ refl (passed (checked (told .before .before))) (few told)) (verdict .judge-search .ensures) (left .leave .ensures)
 
 pub exact-spec : {M : Type 1} → statement M
 exact-spec =
@@ -79,12 +86,13 @@ exact-spec =
     enum-known-admitted
     returns
     enum-told
-    judge-clean-requires
-    judge-exact-requires
-    enum-known-exactness
-    enum-known-exactness-2
-    leave-requires
+    admit-search-requires
+    enum-known-searched
     returns-2
+    enum-told-2
+    judge-clean-requires
+    judge-search-requires
+    leave-requires
     same-length
     same-length-2
     returns-3)
