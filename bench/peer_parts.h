@@ -17,6 +17,12 @@ static inline uint64_t answer(uint64_t kind, uint64_t first, uint64_t second)
     return kind | first << 16 | second << 32;
 }
 
+/* A wrong read: its step, the writer that it should have found, and the step of that one's commit. */
+static inline uint64_t wrong_read(uint64_t step, uint64_t writer, uint64_t commit)
+{
+    return answer(KRUPOVESH_READ_AT, step, writer) | commit << 48;
+}
+
 static inline uint64_t refused(unsigned number, unsigned place)
 {
     return answer(KRUPOVESH_REFUSED, number, place);

@@ -51,8 +51,9 @@ uint64_t snapshot_answer(const struct history *h)
         if (s.kind == BEGIN) {
             memcpy(seen[s.tx], last, sizeof last);
         } else if (s.kind == READ) {
-            if (s.source != s.tx && s.source != seen[s.tx][s.object])
-                return answer(KRUPOVESH_READ_AT, k, 0);
+            unsigned right = seen[s.tx][s.object];
+            if (s.source != s.tx && s.source != right)
+                return wrong_read(k, right, right != 0 ? h->end[right] : 0);
         } else if (s.kind == COMMIT) {
             unsigned partner = clash(h, s.tx, commits++);
             if (partner != 0)

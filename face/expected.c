@@ -89,7 +89,7 @@ static unsigned members(const char *list, uint16_t *witness)
 /* The answer that a line's value speaks of. The fault is the clean verdict's answer. */
 static uint64_t answer_of(const struct expected *e, const char *value, uint64_t fault, uint16_t *witness)
 {
-    unsigned k, t;
+    unsigned k, t, s;
     if (strcmp(value, "yes") == 0)
         return answer(KRUPOVESH_YES, 0, 0);
     if (strcmp(value, "none") == 0)
@@ -100,8 +100,10 @@ static uint64_t answer_of(const struct expected *e, const char *value, uint64_t 
         return answer(KRUPOVESH_ABORTED, k, 0);
     if (sscanf(value, "unfinal at %u", &k) == 1)
         return answer(KRUPOVESH_UNFINAL, k, 0);
-    if (sscanf(value, "read at %u", &k) == 1)
-        return answer(KRUPOVESH_READ_AT, k, 0);
+    if (sscanf(value, "read at %u wants %u from %u", &k, &t, &s) == 3)
+        return wrong_read(k, t, s);
+    if (sscanf(value, "read at %u wants %u", &k, &t) == 2 && t == 0)
+        return wrong_read(k, 0, 0);
     if (sscanf(value, "write at %u with %u", &k, &t) == 2)
         return answer(KRUPOVESH_WRITE_AT, k, t);
     if (sscanf(value, "unclean at %u", &k) == 1 && KRUPOVESH_FIRST(fault) == k)

@@ -51,6 +51,16 @@ uint64_t answer(unsigned kind, unsigned first, unsigned second)
     return (uint64_t)kind | (uint64_t)first << 16 | (uint64_t)second << 32;
 }
 
+uint64_t wrong_read(unsigned step, unsigned writer, unsigned commit)
+{
+    return answer(KRUPOVESH_READ_AT, step, writer) | (uint64_t)commit << 48;
+}
+
+/* The header's macros take apart what `answer` and `wrong_read` put together. */
+#define FOUR_PARTS UINT64_C(0x4444333322221111)
+_Static_assert(KRUPOVESH_KIND(FOUR_PARTS) == 0x1111 && KRUPOVESH_FIRST(FOUR_PARTS) == 0x2222, "kind and first value");
+_Static_assert(KRUPOVESH_SECOND(FOUR_PARTS) == 0x3333 && KRUPOVESH_THIRD(FOUR_PARTS) == 0x4444, "second and third value");
+
 /* No byte of it is 0. */
 static void make_dirty(uint8_t *bytes, size_t count)
 {

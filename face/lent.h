@@ -28,6 +28,7 @@ void make_due(enum buffer b, const void *contents, size_t entries);
 
 /* An answer, put together from its parts. */
 uint64_t answer(unsigned kind, unsigned first, unsigned second);
+uint64_t wrong_read(unsigned step, unsigned writer, unsigned commit);
 
 /* Calls the function. It agrees where it gives the answer that is due, and leaves in each buffer, and around it, what is due. */
 void try_call(enum function f, uint64_t due_answer, const char *about);

@@ -4,20 +4,24 @@
  * No two buffers of a call may overlap.
  * A log has four numbers for each step: kind, transaction, object, source.
  *
- * Each function answers one number. Its low 16 bits are the kind of answer, the next 16 its first value, the next 16 its second:
+ * Each function answers one number. Its low 16 bits are the kind of answer, the next 16 its first value, the next 16 its second, and
+ * the last 16 its third:
  *
- *     kind                    first value              second value
- *     KRUPOVESH_REFUSED       number of the refusal    its place
- *     KRUPOVESH_ORDER         length of the order      0
- *     KRUPOVESH_CYCLE         length of the cycle      0
- *     KRUPOVESH_NONE          0                        0
- *     KRUPOVESH_ABORTED       step of the read         0
- *     KRUPOVESH_UNFINAL       step of the read         0
- *     KRUPOVESH_YES           0                        0
- *     KRUPOVESH_READ_AT       step of the read         0
- *     KRUPOVESH_WRITE_AT      step of the commit       the partner
- *     KRUPOVESH_ACCEPTED      steps read, or bytes     0
+ *     kind                    first value              second value              third value
+ *     KRUPOVESH_REFUSED       number of the refusal    its place                 0
+ *     KRUPOVESH_ORDER         length of the order      0                         0
+ *     KRUPOVESH_CYCLE         length of the cycle      0                         0
+ *     KRUPOVESH_NONE          0                        0                         0
+ *     KRUPOVESH_ABORTED       step of the read         0                         0
+ *     KRUPOVESH_UNFINAL       step of the read         0                         0
+ *     KRUPOVESH_YES           0                        0                         0
+ *     KRUPOVESH_READ_AT       step of the read         the writer that it        step of that writer's commit,
+ *                                                      should have found         or 0 for writer 0
+ *     KRUPOVESH_WRITE_AT      step of the commit       the partner               0
+ *     KRUPOVESH_ACCEPTED      steps read, or bytes     0                         0
  *                             of the report
+ *
+ * Writer 0 is the store before the log began.
  *
  * After a refusal every lent entry is as it was. After any other answer the work area is all 0, and a witness buffer holds the order
  * or the cycle, if there is one, and then zeros. */
@@ -54,6 +58,7 @@ extern "C" {
 #define KRUPOVESH_KIND(answer) ((uint16_t)(answer))
 #define KRUPOVESH_FIRST(answer) ((uint16_t)((answer) >> 16))
 #define KRUPOVESH_SECOND(answer) ((uint16_t)((answer) >> 32))
+#define KRUPOVESH_THIRD(answer) ((uint16_t)((answer) >> 48))
 
 /* Refused, yes, aborted, unfinal. */
 uint64_t krupovesh_clean(const uint16_t *log, size_t log_length, uint8_t *work, size_t work_length);

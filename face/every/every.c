@@ -18,7 +18,7 @@ static int agrees(size_t text_length, size_t due_length)
         if (out[i] != 0)
             return 0;
     return KRUPOVESH_KIND(answer) == KRUPOVESH_ACCEPTED && KRUPOVESH_FIRST(answer) == due_length
-        && KRUPOVESH_SECOND(answer) == 0 && memcmp(out, due, due_length) == 0;
+        && KRUPOVESH_SECOND(answer) == 0 && KRUPOVESH_THIRD(answer) == 0 && memcmp(out, due, due_length) == 0;
 }
 
 /* The first text that is judged otherwise, with both reports. */

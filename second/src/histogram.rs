@@ -47,12 +47,18 @@ fn outcomes(sort: Sort, text: &[u8], report: &str) -> Vec<String> {
     }
 }
 
-/// The first word of each verdict line, and some that come together.
+/// The first word of each verdict line, and some that come together. A wrong
+/// read wants the store's version or a transaction's.
 fn verdicts(report: &str) -> Vec<String> {
     let words = report
         .lines()
         .skip(2)
-        .map(|line| line.split(' ').next().unwrap_or(line));
+        .map(|line| match line.split_once(' ') {
+            Some(("snapshot=read", rest)) if rest.ends_with(" wants 0") => "snapshot=read wants 0",
+            Some(("snapshot=read", _)) => "snapshot=read wants T",
+            Some((word, _)) => word,
+            None => line,
+        });
     let mut met: Vec<String> = words.map(|word| word.to_string()).collect();
     for pair in PAIRS {
         let (one, other) = pair.split_once(" and ").expect("two outcomes");
@@ -135,12 +141,13 @@ fn wanted(sort: Sort) -> Vec<&'static str> {
     }
 }
 
-const VERDICTS: [&str; 15] = [
+const VERDICTS: [&str; 16] = [
     "clean=yes",
     "clean=aborted",
     "clean=unfinal",
     "snapshot=yes",
-    "snapshot=read",
+    "snapshot=read wants 0",
+    "snapshot=read wants T",
     "snapshot=write",
     "conflict=order",
     "conflict=cycle",
@@ -176,13 +183,14 @@ const TEXTS: [&str; 9] = [
     "refused=16 behind",
 ];
 
-const LIMITS: [&str; 26] = [
+const LIMITS: [&str; 27] = [
     "steps=1024",
     "committed=128",
     "committed=8",
     "clean=yes",
     "snapshot=yes",
-    "snapshot=read",
+    "snapshot=read wants 0",
+    "snapshot=read wants T",
     "snapshot=write",
     "conflict=order",
     "conflict=cycle of 2",

@@ -52,7 +52,10 @@ fn clean_words(fault: Option<Fault>) -> String {
 fn snapshot_words(snapshot: Snapshot) -> String {
     match snapshot {
         Snapshot::Yes => "yes".to_string(),
-        Snapshot::Read(step) => format!("read at {step}"),
+        Snapshot::Read(step, None) => format!("read at {step} wants 0"),
+        Snapshot::Read(step, Some((writer, commit))) => {
+            format!("read at {step} wants {writer} from {commit}")
+        }
         Snapshot::Write(step, partner) => format!("write at {step} with {partner}"),
     }
 }

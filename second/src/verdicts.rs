@@ -27,11 +27,16 @@ pub enum Answer {
     Unclean(Fault),
 }
 
-/// Yes, or the lowest faulty step: a read, or a commit with the partner.
+/// The last committed writer of an object before a step, and the step at which
+/// it committed; no writer where the store before the log is meant.
+pub type LastCommitted = Option<(usize, usize)>;
+
+/// Yes, or the lowest faulty step: a read with what it should have found, or a
+/// commit with the partner.
 #[derive(Clone, Copy, Debug, PartialEq, Eq)]
 pub enum Snapshot {
     Yes,
-    Read(usize),
+    Read(usize, LastCommitted),
     Write(usize, usize),
 }
 
@@ -59,9 +64,11 @@ pub fn snapshot(log: &Log) -> Snapshot {
         if !log.is_committed(step.tx) {
             continue;
         }
-        let from_another = step.kind == Kind::Read && step.from != step.tx;
-        if from_another && step.from != version_at_begin(log, step.tx, step.obj) {
-            return Snapshot::Read(k);
+        if step.kind == Kind::Read && step.from != step.tx {
+            let right = last_committed(log, log.begin_of(step.tx), step.obj);
+            if step.from != right.map_or(0, |(writer, _)| writer) {
+                return Snapshot::Read(k, right);
+            }
         }
         if step.kind == Kind::Commit {
             if let Some(partner) = lowest_clashing_partner(log, step.tx) {
@@ -72,12 +79,14 @@ pub fn snapshot(log: &Log) -> Snapshot {
     Snapshot::Yes
 }
 
-/// The last transaction to commit, before the reader's begin, among the
-/// committed writers of the object; 0 if there is none.
-fn version_at_begin(log: &Log, reader: usize, obj: usize) -> usize {
-    let mut writers = log.committed_writers(obj);
-    writers.retain(|&writer| log.commit_of(writer) < log.begin_of(reader));
-    writers.last().copied().unwrap_or(0)
+/// The last transaction to commit, before this step, among the committed
+/// writers of the object, and where it committed.
+fn last_committed(log: &Log, before: usize, obj: usize) -> LastCommitted {
+    let writers = log.committed_writers(obj).into_iter();
+    writers
+        .map(|writer| (writer, log.commit_of(writer)))
+        .filter(|&(_, commit)| commit < before)
+        .max_by_key(|&(_, commit)| commit)
 }
 
 /// The lowest-numbered transaction that committed earlier, overlaps this one

@@ -1,14 +1,19 @@
 -- The parts that the header's macros take of a C call's number: they are the numbers of an answer that the call allows, and these tell the answer.
 use mathlib.Core.Path.{_≡_, refl, sym, ap, _∙_}
 use mathlib.Core.List.{List}
-use Prim.Native.Nat.{ℕ, _/_, _%_}
+use Prim.Native.Nat.{ℕ, suc, _/_, _%_, _≤_}
 use native.Mathlib.Omega.{arith}
 use Rattle.words.specs.Tests.{_is_, if_then_else_}
-use Rattle.verdict.specs.Call.{CleanCall, SnapshotCall, ConflictCall, VersionCall, ExactCall, NextCall}
+use Rattle.words.proofs.Truth.{if-false, →isnt}
+use Rattle.verdict.specs.Limits.{transactions, most-steps}
+use Rattle.verdict.specs.Snapshot.{snapshot-verdict}
+use Rattle.verdict.specs.Call.{turned-away, answered, CleanCall, SnapshotCall, ConflictCall, VersionCall, ExactCall, NextCall}
 use Rattle.verdict.specs.declared.answers.Fault.{Fault}
 use Rattle.verdict.specs.declared.answers.Fault.the-variants.{Aborted, Unfinal}
 use Rattle.verdict.specs.declared.answers.Cleanness.the-variants as cleanness
 use Rattle.verdict.specs.declared.answers.Snapshot.the-variants as snapshot
+use Rattle.verdict.specs.declared.answers.Writer.{Writer}
+use Rattle.verdict.specs.declared.answers.Writer.the-variants.{Store, Committed}
 use Rattle.verdict.specs.declared.answers.Answer.the-variants as answer
 use Rattle.verdict.specs.declared.answers.CleanAnswer.{CleanAnswer}
 use Rattle.verdict.specs.declared.answers.CleanAnswer.the-variants as clean-answer
@@ -16,11 +21,13 @@ use Rattle.verdict.specs.declared.answers.SnapshotAnswer.{SnapshotAnswer}
 use Rattle.verdict.specs.declared.answers.SnapshotAnswer.the-variants as snapshot-answer
 use Rattle.verdict.specs.declared.answers.WitnessAnswer.{WitnessAnswer}
 use Rattle.verdict.specs.declared.answers.WitnessAnswer.the-variants as witness-answer
+use Rattle.verdict.proofs.WellFormed.{else-try→}
+use Rattle.verdict.proofs.Bounds.{SnapshotUpto, read-upto, committed-upto, snapshot-few}
 use Rattle.text.specs.ReadCall.{ReadCall}
 use Rattle.text.specs.ReportCall.{ReportCall}
 use Rattle.text.specs.declared.TextAnswer.{TextAnswer}
 use Rattle.text.specs.declared.TextAnswer.the-variants as text-answer
-use Rattle.exports.specs.Packed.{Numbers, fault-numbers, clean-numbers, snapshot-numbers, witness-numbers, text-numbers, packed, Packs, packs}
+use Rattle.exports.specs.Packed.{Numbers, fault-numbers, clean-numbers, read-numbers, snapshot-numbers, witness-numbers, text-numbers, packed, Packs, packs}
 use Rattle.exports.proofs.Values.{Short, clean-short, snapshot-short, conflict-short, version-short, exact-short, next-short, read-short, report-short}
 
 -- the header's macros
@@ -33,18 +40,23 @@ first-of r = r / 65536 % 65536
 unfoldable pub second-of : ℕ → ℕ
 second-of r = r / 65536 / 65536 % 65536
 
+unfoldable pub third-of : ℕ → ℕ
+third-of r = r / 65536 / 65536 / 65536 % 65536
+
 -- THE PARTS ARE THE NUMBERS OF AN ANSWER THAT THE CALL ALLOWS
 abbrev pub Parts : {A : Type 0} → (A → Type 0) → (A → Numbers) → ℕ → Type 0
-Parts {A} call numbers r = (a : A) × call a × (kind-of r ≡ numbers a .kind) × (first-of r ≡ numbers a .first) × (second-of r ≡ numbers a .second)
+Parts {A} call numbers r =
+    (a : A) × call a × (kind-of r ≡ numbers a .kind) × (first-of r ≡ numbers a .first) × (second-of r ≡ numbers a .second) × (third-of r ≡ numbers a .third)
 
 pub parts-told : {A : Type 0} {call : A → Type 0} {numbers : A → Numbers} {r : ℕ} → ((a : A) → call a → Short (numbers a)) → Packs call numbers r → Parts call numbers r
-unfolding kind-of first-of second-of packed
+unfolding kind-of first-of second-of third-of packed
 parts-told {numbers} short (packs a c e) =
     let h = short a c in
     let i = h .kind-short in
     let j = h .first-short in
     let k = h .second-short in
-    (a, c, omega arith, omega arith, omega arith)
+    let l = h .third-short in
+    (a, c, omega arith, omega arith, omega arith, omega arith)
 
 module _ (log : List ℕ) {work work′ : List ℕ} {r : ℕ} where
   pub clean-parts : Packs (λ a. CleanCall log work a work′) clean-numbers r → Parts (λ a. CleanCall log work a work′) clean-numbers r
@@ -97,21 +109,40 @@ clean-numbers-one = apart clean-numbers back told
     told (clean-answer.Judged (cleanness.Unclean (Aborted k))) = refl
     told (clean-answer.Judged (cleanness.Unclean (Unfinal k))) = refl
 
-pub snapshot-numbers-one : {a b : SnapshotAnswer} → snapshot-numbers a ≡ snapshot-numbers b → a ≡ b
-unfolding snapshot-numbers if_then_else_ _is_
-snapshot-numbers-one = apart snapshot-numbers back told
+-- a transaction that a wrong read should have found is not 0, which stands for the store
+abbrev pub Named : SnapshotAnswer → Type 0
+Named a = (k t s : ℕ) → a ≡ snapshot-answer.Judged (snapshot.Read k (Committed t s)) → 1 ≤ t
+
+upto-named : {n m k t s : ℕ} → SnapshotUpto n m (snapshot.Read k (Committed t s)) → 1 ≤ t
+upto-named (read-upto h (committed-upto o i j)) = o
+
+pub snapshot-named : (log work : List ℕ) {a : SnapshotAnswer} {work′ : List ℕ} → SnapshotCall log work a work′ → Named a
+snapshot-named log work (turned-away n p e x y) k t s h = let z : _≡_ {A = ℕ} 0 1 = cc in absurd (omega arith)
+snapshot-named log work (answered v e j x y) k t s h =
+    let z : snapshot-verdict transactions log ≡ snapshot.Read k (Committed t s) = cc in
+    upto-named {n = most-steps} {m = suc transactions} (rw z at (snapshot-few log (else-try→ (sym e) .1)))
+
+writer-back : Numbers → Writer
+writer-back n = if n .second is 0 then Store else Committed (n .second) (n .third)
+
+pub snapshot-numbers-one : {a b : SnapshotAnswer} → Named a → Named b → snapshot-numbers a ≡ snapshot-numbers b → a ≡ b
+unfolding snapshot-numbers read-numbers writer-back if_then_else_ _is_
+snapshot-numbers-one {a} {b} f g e = sym (told a f) ∙ ap back e ∙ told b g
   where
     back : Numbers → SnapshotAnswer
     back n =
         if n .kind is 0 then snapshot-answer.Refused (n .first) (n .second)
         else if n .kind is 7 then snapshot-answer.Judged snapshot.Yes
-        else if n .kind is 8 then snapshot-answer.Judged (snapshot.Read (n .first)) else snapshot-answer.Judged (snapshot.Write (n .first) (n .second))
+        else if n .kind is 8 then snapshot-answer.Judged (snapshot.Read (n .first) (writer-back n)) else snapshot-answer.Judged (snapshot.Write (n .first) (n .second))
 
-    told : (a : SnapshotAnswer) → back (snapshot-numbers a) ≡ a
-    told (snapshot-answer.Refused n p) = refl
-    told (snapshot-answer.Judged snapshot.Yes) = refl
-    told (snapshot-answer.Judged (snapshot.Read k)) = refl
-    told (snapshot-answer.Judged (snapshot.Write k t)) = refl
+    told : (a : SnapshotAnswer) → Named a → back (snapshot-numbers a) ≡ a
+    told (snapshot-answer.Refused n p) f = refl
+    told (snapshot-answer.Judged snapshot.Yes) f = refl
+    told (snapshot-answer.Judged (snapshot.Read k Store)) f = refl
+    told (snapshot-answer.Judged (snapshot.Read k (Committed t s))) f =
+        let h : 1 ≤ t = f k t s refl in
+        ap (λ (w : Writer). snapshot-answer.Judged (snapshot.Read k w)) (if-false _ _ (→isnt (λ (z : t ≡ 0). omega arith)))
+    told (snapshot-answer.Judged (snapshot.Write k t)) f = refl
 
 pub witness-numbers-one : {a b : WitnessAnswer} → witness-numbers a ≡ witness-numbers b → a ≡ b
 unfolding witness-numbers fault-numbers fault-back if_then_else_ _is_

@@ -1,7 +1,7 @@
 -- The numbers of every answer that a call allows have 16 bits each, so that no packing wraps and nothing of them is lost.
 use mathlib.Core.Path.{_≡_, refl, sym, ap, subst, _∙_}
 use mathlib.Core.List.{List}
-use Prim.Native.Nat.{ℕ, suc, _<_}
+use Prim.Native.Nat.{ℕ, suc, _≤_, _<_}
 use native.Mathlib.Omega.{arith}
 use Rattle.verdict.specs.Limits.{transactions, most-steps}
 use Rattle.verdict.specs.Refusal.{log-refusal}
@@ -14,6 +14,8 @@ use Rattle.verdict.specs.declared.answers.Fault.{Fault}
 use Rattle.verdict.specs.declared.answers.Fault.the-variants.{Aborted, Unfinal}
 use Rattle.verdict.specs.declared.answers.Cleanness.{Cleanness}
 use Rattle.verdict.specs.declared.answers.Cleanness.the-variants as cleanness-is
+use Rattle.verdict.specs.declared.answers.Writer.{Writer}
+use Rattle.verdict.specs.declared.answers.Writer.the-variants.{Store, Committed}
 use Rattle.verdict.specs.declared.answers.Snapshot.{Snapshot}
 use Rattle.verdict.specs.declared.answers.Snapshot.the-variants as snapshot-is
 use Rattle.verdict.specs.declared.answers.CleanAnswer.{CleanAnswer}
@@ -22,12 +24,12 @@ use Rattle.verdict.specs.declared.answers.SnapshotAnswer.{SnapshotAnswer}
 use Rattle.verdict.specs.declared.answers.SnapshotAnswer.the-variants as snapshot-answer
 use Rattle.verdict.specs.declared.answers.WitnessAnswer.{WitnessAnswer}
 use Rattle.verdict.proofs.WellFormed.{else-try→}
-use Rattle.verdict.proofs.Bounds.{Within, within-else, log-within, work-within, witness-within, order-within, search-within, list-within, FaultUpto, aborted-upto, unfinal-upto, SnapshotUpto, snapshot-fine, read-upto, write-upto, OutcomeUpto, order-upto, cycle-upto, none-fine, unclean-upto, fault-few, snapshot-few, conflict-few, version-few, exact-few, next-few}
+use Rattle.verdict.proofs.Bounds.{Within, within-else, log-within, work-within, witness-within, order-within, search-within, list-within, FaultUpto, aborted-upto, unfinal-upto, WriterUpto, store-fine, committed-upto, SnapshotUpto, snapshot-fine, read-upto, write-upto, OutcomeUpto, order-upto, cycle-upto, none-fine, unclean-upto, fault-few, snapshot-few, conflict-few, version-few, exact-few, next-few}
 use Rattle.text.specs.ReadCall.{said-steps, ReadCall}
 use Rattle.text.specs.ReportCall.{said-length, ReportCall}
 use Rattle.text.specs.declared.TextAnswer.{TextAnswer}
 use Rattle.text.proofs.Room.{read-within, report-within, says-few, report-fits}
-use Rattle.exports.specs.Packed.{Numbers, _with_and_, fault-numbers, clean-numbers, snapshot-numbers, witness-numbers, text-numbers, packed}
+use Rattle.exports.specs.Packed.{Numbers, _with_and_, _with_and_then_, fault-numbers, clean-numbers, read-numbers, snapshot-numbers, witness-numbers, text-numbers, packed}
 use Rattle.exports.specs.Inner.Small.{Small}
 
 -- 16 bits each
@@ -35,11 +37,12 @@ pub record Short (n : Numbers) : Type 0 where
   pub kind-short : n .kind < 65536
   pub first-short : n .first < 65536
   pub second-short : n .second < 65536
+  pub third-short : n .third < 65536
 
 -- they fit
 pub fits : {n : Numbers} → Short n → Small (packed n)
 unfolding packed
-fits {n} h = omega (arith, h .kind-short, h .first-short, h .second-short)
+fits {n} h = omega (arith, h .kind-short, h .first-short, h .second-short, h .third-short)
 
 -- an answer that is known
 pub known-small : {A : Type 0} (numbers : A → Numbers) {a b : A} → a ≡ b → Small (packed (numbers a)) → Small (packed (numbers b))
@@ -49,8 +52,11 @@ pub known-packed : {A : Type 0} (numbers : A → Numbers) {a b : A} {r : ℕ} �
 known-packed {A} numbers e h = h ∙ sym (ap (λ (z : A). packed (numbers z)) e)
 
 -- numbers that are written out
+short-three : {k a b c : ℕ} → k < 11 → a < 10000 → b < 10000 → c < 10000 → Short (k with a and b then c)
+short-three h i j l = record { kind-short = omega arith; first-short = omega arith; second-short = omega arith; third-short = omega arith }
+
 short : {k a b : ℕ} → k < 11 → a < 10000 → b < 10000 → Short (k with a and b)
-short h i j = record { kind-short = omega arith; first-short = omega arith; second-short = omega arith }
+short h i j = short-three h i j (omega arith)
 
 refused-short : {n p : ℕ} → (n < 10000) × (p < 10000) → Short (0 with n and p)
 refused-short h = short (omega arith) (h .0) (h .1)
@@ -73,10 +79,15 @@ unfolding clean-numbers
 cleanness-short cleanness-is.Yes few = short (omega arith) (omega arith) (omega arith)
 cleanness-short (cleanness-is.Unclean f) few = fault-short f (few f refl)
 
+wrong-read-short : (k : ℕ) (w : Writer) → k ≤ most-steps → WriterUpto most-steps (suc transactions) w → Short (read-numbers k w)
+unfolding read-numbers
+wrong-read-short k Store h store-fine = short (omega arith) (omega arith) (omega arith)
+wrong-read-short k (Committed t s) h (committed-upto o i j) = short-three (omega arith) (omega arith) (omega arith) (omega arith)
+
 snapshot-says : (s : Snapshot) → SnapshotUpto most-steps (suc transactions) s → Short (snapshot-numbers (snapshot-answer.Judged s))
 unfolding snapshot-numbers
 snapshot-says snapshot-is.Yes snapshot-fine = short (omega arith) (omega arith) (omega arith)
-snapshot-says (snapshot-is.Read k) (read-upto h) = short (omega arith) (omega arith) (omega arith)
+snapshot-says (snapshot-is.Read k w) (read-upto h i) = wrong-read-short k w h i
 snapshot-says (snapshot-is.Write k t) (write-upto h i) = short (omega arith) (omega arith) (omega arith)
 
 outcome-short : (a : Outcome) → OutcomeUpto most-steps transactions a → Short (witness-numbers (said-judged a))

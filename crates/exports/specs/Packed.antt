@@ -1,9 +1,10 @@
--- The one number that a C call answers: its low 16 bits are the kind of answer, then come two values of 16 bits, 0 where there is none.
+-- The one number that a C call answers: its low 16 bits are the kind of answer, then come three values of 16 bits, 0 where there is none.
 -- The kinds: 0 refused, 1 order, 2 cycle, 3 none, 4 aborted, 5 unfinal, 7 yes, 8 read at, 9 write at, 10 accepted.
 use mathlib.Core.Path.{_≡_}
 use Prim.Native.Nat.{ℕ, _+_, _*_}
 use Rattle.verdict.specs.declared.answers.Fault.{Fault}
 use Rattle.verdict.specs.declared.answers.Cleanness.{Cleanness}
+use Rattle.verdict.specs.declared.answers.Writer.{Writer}
 use Rattle.verdict.specs.declared.answers.Snapshot.{Snapshot}
 use Rattle.verdict.specs.declared.answers.Answer.{Answer}
 use Rattle.verdict.specs.declared.answers.CleanAnswer.{CleanAnswer}
@@ -15,10 +16,15 @@ pub record Numbers : Type 0 where
   pub kind : ℕ
   pub first : ℕ
   pub second : ℕ
+  pub third : ℕ
+
+infix 8 _with_and_then_
+abbrev pub _with_and_then_ : ℕ → ℕ → ℕ → ℕ → Numbers
+k with a and b then c = record { kind = k; first = a; second = b; third = c }
 
 infix 8 _with_and_
 abbrev pub _with_and_ : ℕ → ℕ → ℕ → Numbers
-k with a and b = record { kind = k; first = a; second = b }
+k with a and b = k with a and b then 0
 
 unfoldable pub fault-numbers : Fault → Numbers
 fault-numbers (Fault.Aborted k) = 4 with k and 0
@@ -29,10 +35,15 @@ clean-numbers (CleanAnswer.Refused number place) = 0 with number and place
 clean-numbers (CleanAnswer.Judged Cleanness.Yes) = 7 with 0 and 0
 clean-numbers (CleanAnswer.Judged (Cleanness.Unclean f)) = fault-numbers f
 
+-- a wrong read: its step, the writer that it should have found, and the step of that one's commit
+unfoldable pub read-numbers : ℕ → Writer → Numbers
+read-numbers k Writer.Store = 8 with k and 0
+read-numbers k (Writer.Committed t s) = 8 with k and t then s
+
 unfoldable pub snapshot-numbers : SnapshotAnswer → Numbers
 snapshot-numbers (SnapshotAnswer.Refused number place) = 0 with number and place
 snapshot-numbers (SnapshotAnswer.Judged Snapshot.Yes) = 7 with 0 and 0
-snapshot-numbers (SnapshotAnswer.Judged (Snapshot.Read k)) = 8 with k and 0
+snapshot-numbers (SnapshotAnswer.Judged (Snapshot.Read k w)) = read-numbers k w
 snapshot-numbers (SnapshotAnswer.Judged (Snapshot.Write k t)) = 9 with k and t
 
 unfoldable pub witness-numbers : WitnessAnswer → Numbers
@@ -47,7 +58,7 @@ text-numbers (TextAnswer.Refused number place) = 0 with number and place
 text-numbers (TextAnswer.Accepted n) = 10 with n and 0
 
 unfoldable pub packed : Numbers → ℕ
-packed n = n .kind + 65536 * (n .first + 65536 * n .second)
+packed n = n .kind + 65536 * (n .first + 65536 * (n .second + 65536 * n .third))
 
 -- r is the number of an answer that the call allows
 pub data Packs {A : Type 0} (call : A → Type 0) (numbers : A → Numbers) (r : ℕ) : Type 0 where

@@ -1,6 +1,6 @@
 // The one number in which a C call answers.
 ghost use mathlib.Core.Path.{_≡_};
-ghost use Rattle.exports.specs.Packed.{_with_and_, fault-numbers, clean-numbers, snapshot-numbers, witness-numbers, text-numbers, packed};
+ghost use Rattle.exports.specs.Packed.{_with_and_then_, fault-numbers, clean-numbers, read-numbers, snapshot-numbers, witness-numbers, text-numbers, packed};
 ghost use Rattle.exports.specs.Inner.Small.{Small};
 use text::TextAnswer;
 use verdict::answers::Answer;
@@ -10,6 +10,7 @@ use verdict::answers::Fault;
 use verdict::answers::Snapshot;
 use verdict::answers::SnapshotAnswer;
 use verdict::answers::WitnessAnswer;
+use verdict::answers::Writer;
 
 // The kinds of answer.
 const REFUSED: u64 = 0;
@@ -32,12 +33,12 @@ const WRITE_AT: u64 = 9;
 
 const ACCEPTED: u64 = 10;
 
-// The number of a kind and two values: 16 bits for each, the kind lowest.
-fn pack(kind: u64, first: u64, second: u64) -> u64
-    requires { ⌜ Small (packed (kind with first and second)) ⌝ }
-    ensures { λ r. ⌜ r ≡ packed (kind with first and second) ⌝ }
+// The number of a kind and three values: 16 bits for each, the kind lowest.
+fn pack(kind: u64, first: u64, second: u64, third: u64) -> u64
+    requires { ⌜ Small (packed (kind with first and second then third)) ⌝ }
+    ensures { λ r. ⌜ r ≡ packed (kind with first and second then third) ⌝ }
 {
-    kind + 65536 * (first + 65536 * second)
+    kind + 65536 * (first + 65536 * (second + 65536 * third))
 }
 
 // The number of a fault.
@@ -46,8 +47,8 @@ fn pack_fault(fault: Fault) -> u64
     ensures { λ r. ⌜ r ≡ packed (fault-numbers fault) ⌝ }
 {
     match fault {
-        Fault::Aborted(k) => pack(ABORTED, k as u64, 0),
-        Fault::Unfinal(k) => pack(UNFINAL, k as u64, 0),
+        Fault::Aborted(k) => pack(ABORTED, k as u64, 0, 0),
+        Fault::Unfinal(k) => pack(UNFINAL, k as u64, 0, 0),
     }
 }
 
@@ -57,11 +58,22 @@ pub(crate) fn pack_clean(answer: CleanAnswer) -> u64
     ensures { λ r. ⌜ r ≡ packed (clean-numbers answer) ⌝ }
 {
     match answer {
-        CleanAnswer::Refused(number, place) => pack(REFUSED, number as u64, place as u64),
+        CleanAnswer::Refused(number, place) => pack(REFUSED, number as u64, place as u64, 0),
         CleanAnswer::Judged(clean) => match clean {
-            Cleanness::Yes => pack(YES, 0, 0),
+            Cleanness::Yes => pack(YES, 0, 0, 0),
             Cleanness::Unclean(fault) => pack_fault(fault),
         },
+    }
+}
+
+// The number of a wrong read.
+fn pack_read(k: usize, writer: Writer) -> u64
+    requires { ⌜ Small (packed (read-numbers k writer)) ⌝ }
+    ensures { λ r. ⌜ r ≡ packed (read-numbers k writer) ⌝ }
+{
+    match writer {
+        Writer::Store => pack(READ_AT, k as u64, 0, 0),
+        Writer::Committed(t, s) => pack(READ_AT, k as u64, t as u64, s as u64),
     }
 }
 
@@ -71,11 +83,11 @@ pub(crate) fn pack_snapshot(answer: SnapshotAnswer) -> u64
     ensures { λ r. ⌜ r ≡ packed (snapshot-numbers answer) ⌝ }
 {
     match answer {
-        SnapshotAnswer::Refused(number, place) => pack(REFUSED, number as u64, place as u64),
+        SnapshotAnswer::Refused(number, place) => pack(REFUSED, number as u64, place as u64, 0),
         SnapshotAnswer::Judged(snapshot) => match snapshot {
-            Snapshot::Yes => pack(YES, 0, 0),
-            Snapshot::Read(k) => pack(READ_AT, k as u64, 0),
-            Snapshot::Write(k, t) => pack(WRITE_AT, k as u64, t as u64),
+            Snapshot::Yes => pack(YES, 0, 0, 0),
+            Snapshot::Read(k, writer) => pack_read(k, writer),
+            Snapshot::Write(k, t) => pack(WRITE_AT, k as u64, t as u64, 0),
         },
     }
 }
@@ -86,11 +98,11 @@ pub(crate) fn pack_witness(answer: WitnessAnswer) -> u64
     ensures { λ r. ⌜ r ≡ packed (witness-numbers answer) ⌝ }
 {
     match answer {
-        WitnessAnswer::Refused(number, place) => pack(REFUSED, number as u64, place as u64),
+        WitnessAnswer::Refused(number, place) => pack(REFUSED, number as u64, place as u64, 0),
         WitnessAnswer::Judged(judged) => match judged {
-            Answer::Order(n) => pack(ORDER, n as u64, 0),
-            Answer::Cycle(n) => pack(CYCLE, n as u64, 0),
-            Answer::None => pack(NONE, 0, 0),
+            Answer::Order(n) => pack(ORDER, n as u64, 0, 0),
+            Answer::Cycle(n) => pack(CYCLE, n as u64, 0, 0),
+            Answer::None => pack(NONE, 0, 0, 0),
             Answer::Unclean(fault) => pack_fault(fault),
         },
     }
@@ -102,7 +114,7 @@ pub(crate) fn pack_text(answer: TextAnswer) -> u64
     ensures { λ r. ⌜ r ≡ packed (text-numbers answer) ⌝ }
 {
     match answer {
-        TextAnswer::Refused(number, place) => pack(REFUSED, number as u64, place as u64),
-        TextAnswer::Accepted(n) => pack(ACCEPTED, n as u64, 0),
+        TextAnswer::Refused(number, place) => pack(REFUSED, number as u64, place as u64, 0),
+        TextAnswer::Accepted(n) => pack(ACCEPTED, n as u64, 0, 0),
     }
 }

@@ -21,15 +21,17 @@ use Rattle.verdict.specs.declared.answers.Fault.{Fault}
 use Rattle.verdict.specs.declared.answers.Fault.the-variants.{Aborted, Unfinal}
 use Rattle.verdict.specs.declared.answers.Cleanness.{Cleanness}
 use Rattle.verdict.specs.declared.answers.Cleanness.the-variants as cleanness-is
+use Rattle.verdict.specs.declared.answers.Writer.{Writer}
+use Rattle.verdict.specs.declared.answers.Writer.the-variants.{Store, Committed}
 use Rattle.verdict.specs.declared.answers.Snapshot.{Snapshot}
 use Rattle.verdict.specs.declared.answers.Snapshot.the-variants as snapshot-is
-use Rattle.verdict.proofs.Bounds.{Within, within-when, log-within, FaultUpto, aborted-upto, unfinal-upto, SnapshotUpto, snapshot-fine, read-upto, write-upto, MembersUpto, OutcomeUpto, order-upto, cycle-upto, none-fine, unclean-upto, few-steps, few-committed, fault-few, snapshot-few, conflict-few, version-few, exact-few}
+use Rattle.verdict.proofs.Bounds.{Within, within-when, log-within, FaultUpto, aborted-upto, unfinal-upto, WriterUpto, store-fine, committed-upto, SnapshotUpto, snapshot-fine, read-upto, write-upto, MembersUpto, OutcomeUpto, order-upto, cycle-upto, none-fine, unclean-upto, few-steps, few-committed, fault-few, snapshot-few, conflict-few, version-few, exact-few}
 use Rattle.text.specs.Bytes.{bytes, blank, line-end}
 use Rattle.text.specs.Decimal.{decimal}
 use Rattle.text.specs.Line.{item, header}
 use Rattle.text.specs.Reading.{Says, Reading, no-header, too-many, bad-line, extra}
 use Rattle.text.specs.ReadCall.{ReadRefusal, wrong-buffer, too-long, by-line}
-use Rattle.text.specs.ReportLine.{refused-line, committed-line, clean-line, snapshot-line, numbers, value, outcome-line, over-line}
+use Rattle.text.specs.ReportLine.{refused-line, committed-line, clean-line, wants, snapshot-line, numbers, value, outcome-line, over-line}
 use Rattle.text.specs.Report.{ConflictLine, conflict-line, VersionLine, version-line, ExactLine, exact-over, exact-line, first-lines, LogReport, log-refused, judged, ReportOf, text-too-long, text-refused, text-read}
 use Rattle.text.specs.Inner.Put.{most-long, most-short}
 use Rattle.text.specs.ReportCall.{report-bytes, report-refusal}
@@ -78,6 +80,18 @@ steps-length n h = omega (arith, number-item (bytes "steps=") line-end n h)
 pub committed-length : (n : ℕ) → n < 10000 → length (committed-line n) ≤ most-short
 unfolding committed-line bytes
 committed-length n h = omega (arith, number-item (bytes "committed=") line-end n h)
+
+-- what a wrong read should have found
+wants-length : (w : Writer) → WriterUpto most-steps (suc transactions) w → length (wants w) ≤ 21
+unfolding wants bytes
+wants-length Store store-fine = omega arith
+wants-length (Committed t s) (committed-upto o h i) =
+    omega (
+      arith,
+      length-append (item (bytes "wants ") (decimal t) blank) (item (bytes "from ") (decimal s) line-end),
+      number-item (bytes "wants ") blank t (omega arith),
+      number-item (bytes "from ") line-end s (omega arith),
+    )
 
 -- NUMBERS, A BLANK BEFORE EACH
 numbers-length : (w : List ℕ) → ((t : ℕ) → member t w ≡ true → t < 1000) → length (numbers w) ≤ 4 * length w
@@ -154,7 +168,13 @@ module _ (log : List ℕ) (well : log-refusal log ≡ Passed) where
     where
       go : (s : Snapshot) → SnapshotUpto most-steps (suc transactions) s → length (snapshot-line s) ≤ most-short
       go snapshot-is.Yes snapshot-fine = omega arith
-      go (snapshot-is.Read k) (read-upto h) = omega (arith, number-item (bytes "snapshot=read at ") line-end k (omega arith))
+      go (snapshot-is.Read k w) (read-upto h i) =
+          omega (
+            arith,
+            length-append (item (bytes "snapshot=read at ") (decimal k) blank) (wants w),
+            number-item (bytes "snapshot=read at ") blank k (omega arith),
+            wants-length w i,
+          )
       go (snapshot-is.Write k t) (write-upto h i) =
           omega (
             arith,

@@ -1,10 +1,11 @@
--- The lines of a report, each with its LF: how 01 prints every answer.
+-- The lines of a report, each with its LF: how 01 prints every answer, and what 02 adds to a wrong read.
 use mathlib.Core.List.{List, [], _∷_, _++_}
 use Prim.Native.Nat.{ℕ}
 use Rattle.verdict.specs.Clean.{fault-step}
 use Rattle.verdict.specs.Outcome.{Outcome, order, cycle, none, unclean}
 use Rattle.verdict.specs.declared.answers.Fault.{Fault}
 use Rattle.verdict.specs.declared.answers.Cleanness.{Cleanness}
+use Rattle.verdict.specs.declared.answers.Writer.{Writer}
 use Rattle.verdict.specs.declared.answers.Snapshot.{Snapshot}
 use Rattle.text.specs.Bytes.{bytes, blank, line-end}
 use Rattle.text.specs.Decimal.{decimal}
@@ -24,10 +25,15 @@ clean-line Cleanness.Yes = bytes "clean=yes\n"
 clean-line (Cleanness.Unclean (Fault.Aborted k)) = item (bytes "clean=aborted at ") (decimal k) line-end
 clean-line (Cleanness.Unclean (Fault.Unfinal k)) = item (bytes "clean=unfinal at ") (decimal k) line-end
 
--- `snapshot=`: yes, read at K, write at K with T
+-- behind a wrong read: wants T from S, where S is the step of T's commit; wants 0, if the store's version was right
+unfoldable pub wants : Writer → List ℕ
+wants Writer.Store = bytes "wants 0\n"
+wants (Writer.Committed t s) = item (bytes "wants ") (decimal t) blank ++ item (bytes "from ") (decimal s) line-end
+
+-- `snapshot=`: yes, read at K wants T from S, write at K with T
 unfoldable pub snapshot-line : Snapshot → List ℕ
 snapshot-line Snapshot.Yes = bytes "snapshot=yes\n"
-snapshot-line (Snapshot.Read k) = item (bytes "snapshot=read at ") (decimal k) line-end
+snapshot-line (Snapshot.Read k w) = item (bytes "snapshot=read at ") (decimal k) blank ++ wants w
 snapshot-line (Snapshot.Write k t) = item (bytes "snapshot=write at ") (decimal k) blank ++ item (bytes "with ") (decimal t) line-end
 
 -- the members of an order or a cycle, a blank before each

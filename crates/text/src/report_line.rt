@@ -7,7 +7,7 @@ ghost use Rattle.verdict.specs.Clean.{fault-step};
 ghost use Rattle.text.specs.Bytes.{bytes, line-end};
 ghost use Rattle.text.specs.Decimal.{decimal};
 ghost use Rattle.text.specs.Line.{item};
-ghost use Rattle.text.specs.ReportLine.{refused-line, clean-line, snapshot-line, numbers};
+ghost use Rattle.text.specs.ReportLine.{refused-line, clean-line, wants, snapshot-line, numbers};
 ghost use Rattle.text.specs.Inner.Put.{Fits, Puts};
 ghost use Rattle.text.specs.Inner.Told.{told, told-entries};
 use crate::decimal::put_decimal;
@@ -19,6 +19,7 @@ use verdict::answers::Answer;
 use verdict::answers::Cleanness;
 use verdict::answers::Fault;
 use verdict::answers::Snapshot;
+use verdict::answers::Writer;
 
 // Puts the line of a refusal.
 pub(crate) fn put_refused(out: &mut [u8], number: u16, place: usize) -> usize
@@ -43,6 +44,20 @@ pub(crate) fn put_clean(out: &mut [u8], at: usize, clean: Cleanness) -> usize
     }
 }
 
+// Puts what a wrong read should have found, which ends its line.
+fn put_wants(out: &mut [u8], at: usize, writer: Writer) -> usize
+    requires { ⌜ Fits (wants writer) at (now out) ⌝ }
+    ensures { λ r. ⌜ Puts (wants writer) at (now (out .entry)) r (now (out .exit)) ⌝ }
+{
+    match writer {
+        Writer::Store => put_word(out, at, b"wants 0\n"),
+        Writer::Committed(t, s) => {
+            let a = put_item(out, at, b"wants ", t as usize, b' ');
+            put_item(out, a, b"from ", s, b'\n')
+        }
+    }
+}
+
 // Puts the line of the snapshot verdict.
 pub(crate) fn put_snapshot(out: &mut [u8], at: usize, snapshot: Snapshot) -> usize
     requires { ⌜ Fits (snapshot-line snapshot) at (now out) ⌝ }
@@ -50,7 +65,10 @@ pub(crate) fn put_snapshot(out: &mut [u8], at: usize, snapshot: Snapshot) -> usi
 {
     match snapshot {
         Snapshot::Yes => put_word(out, at, b"snapshot=yes\n"),
-        Snapshot::Read(k) => put_item(out, at, b"snapshot=read at ", k, b'\n'),
+        Snapshot::Read(k, writer) => {
+            let a = put_item(out, at, b"snapshot=read at ", k, b' ');
+            put_wants(out, a, writer)
+        }
         Snapshot::Write(k, t) => {
             let a = put_item(out, at, b"snapshot=write at ", k, b' ');
             put_item(out, a, b"with ", t as usize, b'\n')

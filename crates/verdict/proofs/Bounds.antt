@@ -6,18 +6,18 @@ use mathlib.Core.Logic.{⊎-elim}
 use Prim.Native.Nat.{ℕ, zero, suc, _≤_, _<_}
 use native.Mathlib.Omega.{arith}
 use lib.ListN.{length}
-use Rattle.words.specs.Tests.{if_then_else_, some, count, lowest}
+use Rattle.words.specs.Tests.{_below_, if_then_else_, some, count, lowest}
 use Rattle.words.specs.Lists.{member, all}
 use Rattle.words.specs.First.{later}
 use Rattle.graph.specs.Order.{once-each, is-order}
 use Rattle.graph.specs.Cycle.{is-cycle}
 use Rattle.verdict.specs.Outcome.{order, cycle, Outcome, none, unclean, OfGraph, shows-order, shows-cycle}
 use Rattle.graph.specs.Shows as shows
-use Rattle.words.proofs.Truth.{decide, to-false, and→, not-below→, if-true, if-false, lowest-bound, count-above}
+use Rattle.words.proofs.Truth.{decide, to-false, and→, below→, not-below→, if-true, if-false, lowest-bound, count-above}
 use Rattle.words.proofs.Places.{all→}
 use Rattle.graph.proofs.Judge.{nodes, nodes-length, there-node, once-over, once-length, cycle-over, cycle-length}
 use Rattle.verdict.specs.Limits.{transactions, most-steps}
-use Rattle.verdict.specs.Log.{steps, committed, committed-count, aborted, src}
+use Rattle.verdict.specs.Log.{steps, tx, obj, src, begins, committed, committed-count, aborted, begin-step}
 use Rattle.verdict.specs.declared.answers.Checked.{Checked}
 use Rattle.verdict.specs.declared.answers.Checked.the-variants.{Passed, Refused}
 use Rattle.verdict.specs.Refusal.{_at_when_, _else-try_, tried, range-refusal, life-refusal, source-refusal, step-refusal, open-refusal, log-refusal, search-refusal, work-refusal, witness-refusal, order-refusal}
@@ -28,7 +28,9 @@ use Rattle.verdict.specs.Clean.{is-clean, faulty-read, fault-at, cleanne
 use Rattle.verdict.specs.declared.answers.Snapshot.{Snapshot}
 use Rattle.verdict.specs.declared.answers.Snapshot.the-variants as snapshot-is
 use Rattle.verdict.specs.declared.answers.Snapshot.the-variants.{Read, Write}
-use Rattle.verdict.specs.Snapshot.{clash, wrong-read, wrong-step, snapshot-fault, snapshot-verdict}
+use Rattle.verdict.specs.declared.answers.Writer.{Writer}
+use Rattle.verdict.specs.declared.answers.Writer.the-variants.{Store, Committed}
+use Rattle.verdict.specs.Snapshot.{snapshot-step, last-commit, last-committed, wanted, clash, wrong-read, wrong-step, snapshot-fault, snapshot-verdict}
 use Rattle.verdict.specs.Conflict.{conflict-edge, Conflict}
 use Rattle.verdict.specs.Version.{version-edge, Version, version, version-unclean}
 use Rattle.verdict.specs.Replay.{serial}
@@ -99,10 +101,15 @@ pub data FaultUpto (n : ℕ) : Fault → Type 0 where
   aborted-upto : {k : ℕ} → k ≤ n → FaultUpto n (Aborted k)
   unfinal-upto : {k : ℕ} → k ≤ n → FaultUpto n (Unfinal k)
 
--- a wrong step up to n, and a partner up to m
+-- the store, or a transaction from 1 up to m with a step up to n
+pub data WriterUpto (n m : ℕ) : Writer → Type 0 where
+  store-fine : WriterUpto n m Store
+  committed-upto : {t s : ℕ} → 1 ≤ t → t ≤ m → s ≤ n → WriterUpto n m (Committed t s)
+
+-- a wrong step up to n, and such a writer, or a partner up to m
 pub data SnapshotUpto (n m : ℕ) : Snapshot → Type 0 where
   snapshot-fine : SnapshotUpto n m snapshot-is.Yes
-  read-upto : {k : ℕ} → k ≤ n → SnapshotUpto n m (Read k)
+  read-upto : {k : ℕ} {w : Writer} → k ≤ n → WriterUpto n m w → SnapshotUpto n m (Read k w)
   write-upto : {k t : ℕ} → k ≤ n → t ≤ m → SnapshotUpto n m (Write k t)
 
 -- at most m members, each up to m
@@ -186,6 +193,26 @@ module _ (log : List ℕ) (well : log-refusal log ≡ Passed) where
       go false true e = let z : Aborted k ≡ f = cc in rw (← z) (aborted-upto low)
       go false false e = let z : Unfinal k ≡ f = cc in rw (← z) (unfinal-upto low)
 
+  wanted-few : (i : ℕ) → WriterUpto most-steps (suc transactions) (wanted log i)
+  unfolding wanted last-committed snapshot-step begin-step if_then_else_
+  wanted-few i = go (s below b) (λ e. below→ e)
+    where
+      b : ℕ
+      b = snapshot-step log (tx log i)
+
+      s : ℕ
+      s = last-commit log b (obj log i)
+
+      within : b ≤ steps log
+      within = lowest-bound (begins log (tx log i))
+
+      go : (v : Bool) → (v ≡ true → s < b) → WriterUpto most-steps (suc transactions) (if v then Committed (tx log s) s else Store)
+      go true f =
+          let h : s < b = f refl in
+          let r = formed .range s (omega (arith, within)) in
+          committed-upto {s = s} (r .0) (omega (arith, r .1)) (omega (arith, within, few-steps))
+      go false f = store-fine
+
   pub snapshot-few : SnapshotUpto most-steps (suc transactions) (snapshot-verdict transactions log)
   unfolding snapshot-verdict snapshot-fault if_then_else_
   snapshot-few = go (some (steps log) (wrong-step transactions log)) (wrong-read log k)
@@ -199,8 +226,8 @@ module _ (log : List ℕ) (well : log-refusal log ≡ Passed) where
       low : k ≤ most-steps
       low = omega (arith, lowest-bound {n = steps log} (wrong-step transactions log), few-steps)
 
-      go : (b c : Bool) → SnapshotUpto most-steps (suc transactions) (if b then if c then Read k else Write k t else snapshot-is.Yes)
-      go true true = read-upto low
+      go : (b c : Bool) → SnapshotUpto most-steps (suc transactions) (if b then if c then Read k (wanted log k) else Write k t else snapshot-is.Yes)
+      go true true = read-upto low (wanted-few k)
       go true false = write-upto low (lowest-bound (clash log k))
       go false c = snapshot-fine
 

@@ -22,10 +22,11 @@ use Rattle.verdict.specs.declared.answers.Fault.the-variants.{Aborted, U
 use Rattle.verdict.specs.declared.answers.Cleanness.{Cleanness}
 use Rattle.verdict.specs.declared.answers.Cleanness.the-variants.{Yes, Unclean}
 use Rattle.verdict.specs.Clean.{judged, judged-other, writes-later, final-source, faulty-read, is-clean, fault-at, cleanness}
+use Rattle.verdict.specs.declared.answers.Writer.the-variants.{Store, Committed}
 use Rattle.verdict.specs.declared.answers.Snapshot.{Snapshot}
 use Rattle.verdict.specs.declared.answers.Snapshot.the-variants as snapshot-is
 use Rattle.verdict.specs.declared.answers.Snapshot.the-variants.{Read, Write}
-use Rattle.verdict.specs.Snapshot.{snapshot-step, last-commit, last-committed, wrong-read, overlap, clash, wrong-commit, wrong-step, snapshot-fault, snapshot-verdict}
+use Rattle.verdict.specs.Snapshot.{writer-number, snapshot-step, last-commit, last-committed, wanted, wrong-read, overlap, clash, wrong-commit, wrong-step, snapshot-fault, snapshot-verdict}
 use Rattle.verdict.specs.Inner.ConflictEdges.{touches, meet-somehow, plain-conflict}
 use Rattle.verdict.specs.Conflict.{Conflict}
 use Rattle.verdict.specs.Version.{versions-from, next-commit, next-version, Version}
@@ -136,19 +137,19 @@ table =
     (answered Yes snapshot-is.Yes (ring 12′) (ring 12′) Outcome.none [] [] (none ∷ none ∷ []))
     -- example 2.12
     ∷ sample (b 1 (w 1 x (c 1 (b 2 (w 2 x (c 2 (b 3 (r 3 x 1 (c 3 []))))))))) (132′ ∷ 123′ ∷ 213′ ∷ (1 ∷ 3 ∷ 2 ∷ 0 ∷ 5 ∷ []) ∷ [] ∷ [])
-    (answered Yes (Read 7) (ordered 123′) (ordered 132′) (order 132′) (132′ ∷ []) (132′ ∷ 213′ ∷ []) (no-order ∷ none ∷ none ∷ none ∷ none ∷ []))
+    (answered Yes (Read 7 (Committed 2 5)) (ordered 123′) (ordered 132′) (order 132′) (132′ ∷ []) (132′ ∷ 213′ ∷ []) (no-order ∷ none ∷ none ∷ none ∷ none ∷ []))
     -- example 2.13
     ∷ sample (b 1 (w 1 x (w 1 y (c 1 (b 2 (w 2 x (w 2 y (c 2 (b 3 (r 3 x 2 (r 3 y 1 (c 3 [])))))))))))) (123′ ∷ [])
-    (answered Yes (Read 10) (ordered 123′) (ring (2 ∷ 3 ∷ [])) Outcome.none [] [] (none ∷ []))
+    (answered Yes (Read 10 (Committed 2 7)) (ordered 123′) (ring (2 ∷ 3 ∷ [])) Outcome.none [] [] (none ∷ []))
     -- a lost update
     ∷ sample (b 1 (b 2 (r 1 x 0 (r 2 x 0 (w 1 x (w 2 x (c 1 (c 2 [])))))))) []
     (answered Yes (Write 7 1) (ring 12′) (ring 12′) Outcome.none [] [] [])
     -- a read from a transaction that aborts
     ∷ sample (b 1 (w 1 x (b 2 (r 2 x 1 (c 2 (a 1 [])))))) ((2 ∷ []) ∷ [])
-    (answered (Unclean (Aborted 3)) (Read 3) (ordered (2 ∷ [])) (fault (Aborted 3)) (unclean (Aborted 3)) [] [] (none ∷ []))
+    (answered (Unclean (Aborted 3)) (Read 3 Store) (ordered (2 ∷ [])) (fault (Aborted 3)) (unclean (Aborted 3)) [] [] (none ∷ []))
     -- a read of a value that is overwritten
     ∷ sample (b 1 (w 1 x (b 2 (r 2 x 1 (w 1 x (c 1 (c 2 []))))))) []
-    (answered (Unclean (Unfinal 3)) (Read 3) (ring 12′) (fault (Unfinal 3)) (unclean (Unfinal 3)) [] [] [])
+    (answered (Unclean (Unfinal 3)) (Read 3 Store) (ring 12′) (fault (Unfinal 3)) (unclean (Unfinal 3)) [] [] [])
     -- three orders
     ∷ sample (b 1 (w 1 x (c 1 (b 2 (r 2 x 1 (c 2 (b 3 (w 3 y (c 3 []))))))))) (123′ ∷ 132′ ∷ 312′ ∷ 213′ ∷ [])
     (answered Yes snapshot-is.Yes (ordered 123′) (ordered 123′) (order 123′) (123′ ∷ 132′ ∷ 312′ ∷ []) (123′ ∷ 132′ ∷ 312′ ∷ []) (ordered 132′ ∷ ordered 312′ ∷ no-order ∷ none ∷ []))
@@ -172,7 +173,7 @@ unfolding b r w c a sample ordered ring no-order fault 1′ 12′ 21′ 123′ 1
     steps kind tx obj src begins reads writes commits aborts committed aborted writer write-one-object begin-step commit-step commits-writer committed-count
     _at_when_ _else-try_ tried object-allowed source-allowed begun ended wrote range-refusal life-refusal source-refusal step-refusal open-refusal log-refusal
     judged judged-other writes-later final-source faulty-read is-clean fault-at cleanness
-    snapshot-step last-commit last-committed wrong-read overlap clash wrong-commit wrong-step snapshot-fault snapshot-verdict
+    writer-number snapshot-step last-commit last-committed wanted wrong-read overlap clash wrong-commit wrong-step snapshot-fault snapshot-verdict
     touches meet-somehow plain-conflict versions-from next-commit next-version from-writer from-source from-reader plain-version
     finds reads-right writers-in-order serial explains-loosely explains up-to-zero from-zero list-refusal
     ascending put-before each-before tuples short-tuples sift shown-by nodes judge-graph

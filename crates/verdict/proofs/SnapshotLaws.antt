@@ -1,20 +1,22 @@
 -- The snapshot verdict: what a read should have found, which writers clash, and the verdict from the lowest of both.
 use mathlib.Core.Path.{_≡_, refl, sym, ap, subst, _∙_}
-use mathlib.Core.Bool.{true, false}
+use mathlib.Core.Bool.{Bool, true, false}
 use mathlib.Core.Logic.{_⊎_, inl, inr, ⊎-elim}
 use mathlib.Core.List.{List}
 use Prim.Native.Nat.{ℕ, suc, _-_, _≤_, _<_}
 use native.Mathlib.Omega.{arith}
 use native.Mathlib.Numerals.{add-one}
 use lib.ListN.{getD, replicate}
-use Rattle.words.specs.Tests.{_is_, _and_, _or_, fails, some, lowest, highest}
+use Rattle.words.specs.Tests.{_is_, _below_, _and_, _or_, fails, if_then_else_, some, lowest, highest}
 use Rattle.words.proofs.Truth.{decide, not-both, to-false, and→, →and, and-true, and-no-left, and-no-right, or→, →or-left, →or-right, →is, is→, →isnt, →below, →not-below, if-true, if-false, some→, →some, none→, none-next, lowest-is, lowest-none, lowest-at, lowest-passes, lowest-bound, lowest-left, lowest-right, below-lowest, highest-yes, highest-no, highest-below, highest-none}
 use Rattle.verdict.specs.Limits.{transactions, objects}
 use Rattle.verdict.specs.Log.{steps, kind, tx, obj, begins, writes, committed, commits, writer, write-one-object, begin-step, commit-step, commits-writer}
 use Rattle.verdict.specs.Clean.{judged-other}
 use Rattle.verdict.specs.declared.step.Step.{Step}
 use Rattle.verdict.specs.declared.answers.Snapshot.the-variants.{Yes, Read, Write}
-use Rattle.verdict.specs.Snapshot.{snapshot-step, last-commit, last-committed, wrong-read, overlap, clash, wrong-commit, wrong-step, snapshot-fault, snapshot-verdict}
+use Rattle.verdict.specs.declared.answers.Writer.{Writer}
+use Rattle.verdict.specs.declared.answers.Writer.the-variants.{Store, Committed}
+use Rattle.verdict.specs.Snapshot.{writer-number, snapshot-step, last-commit, last-committed, wanted, wrong-read, overlap, clash, wrong-commit, wrong-step, snapshot-fault, snapshot-verdict}
 use Rattle.verdict.specs.Inner.StepAt.{StepAt}
 use Rattle.verdict.specs.Inner.Marks.{does, FirstSteps, Marked}
 use Rattle.verdict.specs.Inner.Clashes.{partner, FirstClash}
@@ -24,11 +26,20 @@ use Rattle.verdict.proofs.Marks.{unmarked}
 
 -- THE LAST COMMITTED WRITER
 module _ (log : List ℕ) (x : ℕ) where
-  pub last-none : last-committed log 0 x ≡ 0
+  -- its number alone, in 01's words: the transaction of the last such commit, 0 if there is none
+  pub last-number : (b : ℕ) → writer-number (last-committed log b x) ≡ (if last-commit log b x below b then tx log (last-commit log b x) else 0)
+  unfolding last-committed writer-number if_then_else_
+  last-number b = go (last-commit log b x below b)
+    where
+      go : (v : Bool) → writer-number (if v then Committed (tx log (last-commit log b x)) (last-commit log b x) else Store) ≡ (if v then tx log (last-commit log b x) else 0)
+      go true = refl
+      go false = refl
+
+  pub last-none : last-committed log 0 x ≡ Store
   unfolding last-committed last-commit highest
   last-none = if-false _ _ (→not-below (omega arith))
 
-  last-here : (b : ℕ) → commits-writer log x b ≡ true → last-committed log (suc b) x ≡ tx log b
+  last-here : (b : ℕ) → commits-writer log x b ≡ true → last-committed log (suc b) x ≡ Committed (tx log b) b
   unfolding last-committed last-commit
   last-here b h = rw (highest-yes b (commits-writer log x) h) (if-true _ _ (→below (omega arith)))
 
@@ -46,8 +57,8 @@ module _ (log : List ℕ) (x : ℕ) where
 
   -- the same, one step back from j
   module _ (j : ℕ) (h : 0 < j) where
-    pub found-back : commits-writer log x (j - 1) ≡ true → last-committed log j x ≡ tx log (j - 1)
-    found-back k = let e : suc (j - 1) ≡ j = omega arith in subst (λ (m : ℕ). last-committed log m x ≡ tx log (j - 1)) e (last-here (j - 1) k)
+    pub found-back : commits-writer log x (j - 1) ≡ true → last-committed log j x ≡ Committed (tx log (j - 1)) (j - 1)
+    found-back k = let e : suc (j - 1) ≡ j = omega arith in subst (λ (m : ℕ). last-committed log m x ≡ Committed (tx log (j - 1)) (j - 1)) e (last-here (j - 1) k)
 
     pub further-back : commits-writer log x (j - 1) ≡ false → last-committed log j x ≡ last-committed log (j - 1) x
     further-back k = let e : suc (j - 1) ≡ j = omega arith in subst (λ (m : ℕ). last-committed log m x ≡ last-committed log (j - 1) x) e (last-before (j - 1) k)
@@ -58,10 +69,15 @@ module _ (log : List ℕ) (i : ℕ) where
   unfolding wrong-read
   not-wrong j = and-no-left _ j
 
-  -- a judged read from another: s names its source, and r is who committed last before b, where the reader begins
-  pub names-another : {s : Step} {b r : ℕ} → StepAt log i s → judged-other log i ≡ true → b ≡ lowest (steps log) (does log 1 (s .tx)) → r ≡ last-committed log b (s .obj) → fails (s .src is r) ≡ wrong-read log i
-  unfolding wrong-read snapshot-step begin-step begins does
-  names-another step j e f = rw (f, e, step .src-is, step .tx-is, step .obj-is) (sym (and-true j))
+  -- what it should have found: who committed last before b, where its transaction begins
+  pub wanted-there : {s : Step} {b : ℕ} {r : Writer} → StepAt log i s → b ≡ lowest (steps log) (does log 1 (s .tx)) → r ≡ last-committed log b (s .obj) → r ≡ wanted log i
+  unfolding wanted snapshot-step begin-step begins does
+  wanted-there step e f = f ∙ rw (e, step .tx-is, step .obj-is) refl
+
+  -- a judged read from another: s names its source, and r is the number of what it should have found
+  pub names-another : {s : Step} {r : ℕ} → StepAt log i s → judged-other log i ≡ true → r ≡ writer-number (wanted log i) → fails (s .src is r) ≡ wrong-read log i
+  unfolding wrong-read
+  names-another step j e = rw (e, step .src-is) (sym (and-true j))
 
 -- A CLASH
 module _ (log : List ℕ) (j p : ℕ) where
@@ -163,15 +179,15 @@ module _ (log : List ℕ) where
   wrong-commit-kind j h = let r = some→ h in commit-of log j (r .0) (r .2)
 
   module _ (k j p : ℕ) (read : k ≡ lowest (steps log) (wrong-read log)) (found : FirstClash log j p) where
-    pub read-first : k < j → snapshot-verdict transactions log ≡ Read k
+    pub read-first : {w : Writer} → k < j → w ≡ wanted log k → snapshot-verdict transactions log ≡ Read k w
     unfolding snapshot-verdict wrong-step snapshot-fault
-    read-first h =
+    read-first h v =
         let b : lowest (steps log) (wrong-commit transactions log) ≤ steps log = lowest-bound (wrong-commit transactions log) in
         let f : j ≡ lowest (steps log) (wrong-commit transactions log) = found .first in
         let z : lowest (steps log) (wrong-read log) < lowest (steps log) (wrong-commit transactions log) = omega arith in
         let e : lowest (steps log) (λ i. wrong-read log i or wrong-commit transactions log i) ≡ k = lowest-left (steps log) _ _ z ∙ sym read in
         let w : wrong-read log k ≡ true = rw read (lowest-is {n = steps log} (wrong-read log) (lowest-passes (wrong-read log) (omega arith)) .1) in
-        if-true _ _ (→some _ k (omega arith) (→or-left _ w)) ∙ ap (snapshot-fault transactions log) e ∙ if-true _ _ w
+        if-true _ _ (→some _ k (omega arith) (→or-left _ w)) ∙ ap (snapshot-fault transactions log) e ∙ if-true _ _ w ∙ ap (Read k) (sym v)
 
     pub write-first : j ≤ k → j < steps log → snapshot-verdict transactions log ≡ Write j p
     unfolding snapshot-verdict wrong-step snapshot-fault

@@ -19,10 +19,16 @@ pub enum Cleanness {
     Unclean(Fault),
 }
 
-// The snapshot verdict: yes, a wrong read at a step, or a wrong write at a step with its partner.
+// Who wrote a version: the store before the log began, which is writer 0, or a transaction, with the step of its commit.
+pub enum Writer {
+    Store,
+    Committed(u16, usize),
+}
+
+// The snapshot verdict: yes, a wrong read at a step with the writer that it should have found, or a wrong write at a step with its partner.
 pub enum Snapshot {
     Yes,
-    Read(usize),
+    Read(usize, Writer),
     Write(usize, u16),
 }
 

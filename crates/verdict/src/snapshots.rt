@@ -2,6 +2,7 @@
 use crate::answers::Checked;
 use crate::answers::Snapshot;
 use crate::answers::SnapshotAnswer;
+use crate::answers::Writer;
 use crate::leaving::clear;
 use crate::limits::Object;
 use crate::limits::Transaction;
@@ -21,14 +22,14 @@ ghost use Rattle.words.specs.Tests.{_is_, _and_, fails, lowest};
 ghost use Rattle.verdict.specs.Limits.{transactions, objects};
 ghost use Rattle.verdict.specs.Log.{steps, writer};
 ghost use Rattle.verdict.specs.Refusal.{log-refusal};
-ghost use Rattle.verdict.specs.Snapshot.{last-committed, wrong-read, snapshot-verdict};
+ghost use Rattle.verdict.specs.Snapshot.{writer-number, last-committed, wanted, wrong-read, snapshot-verdict};
 ghost use Rattle.verdict.specs.Call.{SnapshotCall};
 ghost use Rattle.verdict.specs.Inner.Marks.{FirstSteps, Marked};
 ghost use Rattle.verdict.specs.Inner.Clashes.{partner, FirstClash};
 ghost use Rattle.verdict.specs.declared.answers.Checked.the-variants.{Passed};
 
-// The last transaction to commit, before step b, among the committed writers of x; 0 if there is none.
-pub(crate) fn last_committed(log: &[u16], b: usize, x: u16) -> u16
+// The last transaction to commit, before step b, among the committed writers of x, and the step of its commit; else the store.
+pub(crate) fn last_committed(log: &[u16], b: usize, x: u16) -> Writer
     requires { ⌜ (log-refusal (now log) ≡ Passed) × (4 * b ≤ length (now log)) ⌝ }
     ensures { λ r. ⌜ r ≡ last-committed (now (log .entry)) b x ⌝ }
 {
@@ -36,14 +37,34 @@ pub(crate) fn last_committed(log: &[u16], b: usize, x: u16) -> u16
     let mut j = b;
     while 0 < j {
         j -= 1;
-        let step = step_at(log, j);
-        if step.kind == Step::COMMIT {
-            if marked(&marks, step.tx) {
-                return step.tx;
+        let earlier = step_at(log, j);
+        if earlier.kind == Step::COMMIT {
+            if marked(&marks, earlier.tx) {
+                return Writer::Committed(earlier.tx, j);
             }
         }
     }
-    0
+    Writer::Store
+}
+
+// A writer's number.
+fn number_of(writer: Writer) -> u16
+    ensures { λ r. ⌜ r ≡ writer-number writer ⌝ }
+{
+    match writer {
+        Writer::Store => 0,
+        Writer::Committed(t, s) => t,
+    }
+}
+
+// What read i should have found.
+fn wanted(log: &[u16], i: usize) -> Writer
+    requires { ⌜ (log-refusal (now log) ≡ Passed) × (4 * i + 4 ≤ length (now log)) ⌝ }
+    ensures { λ r. ⌜ r ≡ wanted (now (log .entry)) i ⌝ }
+{
+    let step = step_at(log, i);
+    let b = first_step(log, Step::BEGIN, step.tx);
+    last_committed(log, b, step.obj)
 }
 
 // Whether step i is a judged read from another that names anyone but the last committed writer before its snapshot.
@@ -64,9 +85,7 @@ fn is_wrong(log: &[u16], i: usize) -> bool
     if !seen(log, n, Step::COMMIT, t) {
         return false;
     }
-    let b = first_step(log, Step::BEGIN, t);
-    let right = last_committed(log, b, step.obj);
-    s != right
+    s != number_of(wanted(log, i))
 }
 
 // The lowest wrong read, or the number of steps where there is none.
@@ -180,7 +199,7 @@ pub(crate) fn judge_snapshot(log: &[u16]) -> Snapshot
     let j = clash.step;
     let p = clash.partner;
     if k < j {
-        return Snapshot::Read(k);
+        return Snapshot::Read(k, wanted(log, k));
     }
     if j < n {
         return Snapshot::Write(j, p);

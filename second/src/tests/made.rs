@@ -12,6 +12,26 @@ fn every_outcome_is_reached() {
     assert!(missed.is_empty(), "{missed:?}\n{}", lines.join("\n"));
 }
 
+/// Of the small logs of any seed at least one in ten has a wrong read, and both
+/// forms of what it wants occur.
+#[test]
+fn wrong_reads_are_common() {
+    for seed in 1..=10 {
+        let reports: Vec<String> = (1..=1500)
+            .map(|index| report(&Sort::Small.text(seed, index)))
+            .collect();
+        let with = |form: &dyn Fn(&str) -> bool| {
+            let wrong = |line: &str| line.starts_with("snapshot=read at ") && form(line);
+            let has = |report: &&String| report.lines().any(wrong);
+            reports.iter().filter(has).count()
+        };
+        let of_the_store = with(&|line| line.ends_with(" wants 0"));
+        let of_another = with(&|line| line.contains(" from "));
+        assert!(10 * (of_the_store + of_another) >= reports.len());
+        assert!(20 <= of_the_store.min(of_another));
+    }
+}
+
 #[test]
 fn the_same_seed_gives_the_same_texts() {
     for sort in SORTS {

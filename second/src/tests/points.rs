@@ -30,7 +30,7 @@ fn checks() {
 const REPORTS: [(&str, &str); 17] = [
     (
         "b1 w1x b2 r2x1 c2 c1",
-        "clean=yes; snapshot=read at 3; version=order 1 2; exact=order 1 2",
+        "clean=yes; snapshot=read at 3 wants 0; version=order 1 2; exact=order 1 2",
     ),
     ("b1 w1x b2 r2x1 c2 w1x c1", "clean=unfinal at 3"),
     ("b1 w1x b2 r2x1 w1x c2 a1", "clean=aborted at 3"),
@@ -42,17 +42,20 @@ const REPORTS: [(&str, &str); 17] = [
     ),
     (
         "b1 b2 w1x r2x1 c2 a1",
-        "clean=aborted at 3; snapshot=read at 3; conflict=order 2",
+        "clean=aborted at 3; snapshot=read at 3 wants 0; conflict=order 2",
     ),
     (
         "b2 b1 w1x w2x c2 b3 r3x1 c3 c1",
-        "clean=yes; snapshot=read at 6",
+        "clean=yes; snapshot=read at 6 wants 2 from 4",
     ),
     (
         "b1 b2 w1x w2x c1 c2 b3 w3y b4 r4y3 a3 c4",
         "clean=aborted at 9; snapshot=write at 5 with 1",
     ),
-    ("b1 b2 w1x w2x b3 r3x2 c1 c2 c3", "snapshot=read at 5"),
+    (
+        "b1 b2 w1x w2x b3 r3x2 c1 c2 c3",
+        "snapshot=read at 5 wants 0",
+    ),
     (
         "b5 b3 b1 w5x w3y w1x w1y c5 c3 c1",
         "snapshot=write at 9 with 3",
@@ -83,6 +86,23 @@ fn verdicts() {
     reports(aborted_between, "version=cycle 1 2");
     let version_between = "b1 w1x c1 b2 w2x c2 b3 r3x1 w3x c3";
     reports(version_between, "version=cycle 2 3; exact=order 1 3 2");
+}
+
+/// The step is that of the commit, and no later commit than the reader's begin
+/// counts, nor a writer that aborts.
+const WANTS: [(&str, &str); 5] = [
+    ("b1 w1x c1 b2 w2x c2 b3 r3x1 c3", "read at 7 wants 2 from 5"),
+    ("b1 w1x b2 r2x1 c1 c2", "read at 3 wants 0"),
+    ("b1 w1x c1 b2 b3 w3x c3 r2x3 c2", "read at 7 wants 1 from 2"),
+    ("b1 w1x c1 b2 w2x a2 b3 r3x2 c3", "read at 7 wants 1 from 2"),
+    ("b1 w1y c1 b2 w2x b3 r3x2 c2 c3", "read at 6 wants 0"),
+];
+
+#[test]
+fn wants() {
+    for (short, value) in WANTS {
+        reports(short, &format!("snapshot={value}"));
+    }
 }
 
 #[test]

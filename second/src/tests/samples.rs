@@ -51,7 +51,10 @@ fn the_empty_log() {
 #[test]
 fn example_2_12() {
     let short = "b1 w1x c1 b2 w2x c2 b3 r3x1 c3";
-    reports(short, "clean=yes; snapshot=read at 7; conflict=order 1 2 3");
+    reports(
+        short,
+        "clean=yes; snapshot=read at 7 wants 2 from 5; conflict=order 1 2 3",
+    );
     reports(short, "version=order 1 3 2; exact=order 1 3 2");
     assert_eq!(loose_list(&log(short)), [[1, 3, 2], [2, 1, 3]]);
     assert_eq!(list(&log(short)), [[1, 3, 2]]);
@@ -62,7 +65,7 @@ fn example_2_13() {
     let short = "b1 w1x w1y c1 b2 w2x w2y c2 b3 r3x2 r3y1 c3";
     reports(
         short,
-        "snapshot=read at 10; conflict=order 1 2 3; version=cycle 2 3; exact=none",
+        "snapshot=read at 10 wants 2 from 7; conflict=order 1 2 3; version=cycle 2 3; exact=none",
     );
     assert!(loose_list(&log(short)).is_empty());
 }
@@ -181,7 +184,7 @@ fn commit_order_is_not_write_order() {
     let short = "b1 b2 w2x r1x2 w1x c1 c2";
     reports(
         short,
-        "snapshot=read at 3; conflict=order 2 1; version=cycle 1 2; exact=order 2 1",
+        "snapshot=read at 3 wants 0; conflict=order 2 1; version=cycle 1 2; exact=order 2 1",
     );
 }
 

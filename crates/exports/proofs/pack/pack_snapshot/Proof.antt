@@ -41,9 +41,9 @@ pack-requires-2 c κs = small (c .before .before) (c .enum-told .given .1)
 enum-known-snapshot : tie.Need-enum-known-snapshot
 enum-known-snapshot c = search needs
 
-pack-requires-3 : tie.Need-pack-requires-3
+pack-read-requires : tie.Need-pack-read-requires
 unfolding snapshot-numbers
-pack-requires-3 c κs = small (c .before .before .before) (c .before .snapshot .given .1)
+pack-read-requires c κs = small (c .before .before .before) (c .before .snapshot .given .1)
 
 enum-known-snapshot-2 : tie.Need-enum-known-snapshot-2
 enum-known-snapshot-2 c = search needs
@@ -51,9 +51,9 @@ enum-known-snapshot-2 c = search needs
 cast-pack-2 : tie.Need-cast-pack-2
 cast-pack-2 c = search needs
 
-pack-requires-4 : tie.Need-pack-requires-4
+pack-requires-3 : tie.Need-pack-requires-3
 unfolding snapshot-numbers
-pack-requires-4 c κs = small (c .before .before .before) (c .before .snapshot2 .given .1)
+pack-requires-3 c κs = small (c .before .before .before) (c .before .snapshot2 .given .1)
 
 returns : tie.Need-returns
 unfolding snapshot-numbers
@@ -65,11 +65,11 @@ returns-2 c = says (c .before .before .before) (c .before .enum-told .given .1) 
 
 returns-3 : tie.Need-returns-3
 unfolding snapshot-numbers
-returns-3 c = says (c .before .before .before .before) (c .before .before .snapshot .given .1) (c .pack3 .ensures)
+returns-3 c = says (c .before .before .before .before) (c .before .before .snapshot .given .1) (c .pack-read .ensures)
 
 returns-4 : tie.Need-returns-4
 unfolding snapshot-numbers
-returns-4 c = says (c .before .before .before .before) (c .before .before .snapshot2 .given .1) (c .pack4 .ensures)
+returns-4 c = says (c .before .before .before .before) (c .before .before .snapshot2 .given .1) (c .pack3 .ensures)
 
 pub pack-snapshot-spec : {M : Type 1} → statement M
 pack-snapshot-spec =
@@ -82,10 +82,10 @@ pack-snapshot-spec =
     enum-told
     pack-requires-2
     enum-known-snapshot
-    pack-requires-3
+    pack-read-requires
     enum-known-snapshot-2
     cast-pack-2
-    pack-requires-4
+    pack-requires-3
     returns
     returns-2
     returns-3

@@ -5,7 +5,7 @@ use Prim.Native.Nat.{ℕ}
 use Rattle.text.specs.Bytes.{bytes, blank, line-end}
 use Rattle.text.specs.Decimal.{decimal}
 use Rattle.text.specs.Line.{item}
-use Rattle.text.specs.ReportLine.{snapshot-line}
+use Rattle.text.specs.ReportLine.{wants, snapshot-line}
 use Rattle.text.specs.Inner.Put.{Fits}
 use Rattle.text.proofs.Puts.{first-fits, then-fits, both-put, known-fits, known-puts}
 use Rattle.text.proofs.report_line.put_snapshot.Statement.{statement}
@@ -28,11 +28,25 @@ said-yes c = c .before .before .before
 abbrev said-read : tie.After-put-item → tie.After-snapshot
 said-read c = c .before .before .before .before
 
+abbrev said-wants : tie.After-put-wants → tie.After-put-item
+said-wants c = c .before .before .before .before
+
 abbrev said-write : tie.After-put-item2 → tie.After-snapshot2
 said-write c = c .before .before .before .before
 
 abbrev said-partner : tie.After-put-item3 → tie.After-put-item2
 said-partner c = c .before .before .before .before .before
+
+-- the two parts of a wrong read's line, which has room
+abbrev at-read : tie.After-snapshot → List ℕ
+at-read c = item (bytes "snapshot=read at ") (decimal (c .snapshot .given .0 .0)) blank
+
+abbrev what-wanted : tie.After-snapshot → List ℕ
+what-wanted c = wants (c .snapshot .given .0 .1 .0)
+
+read-fits : (c : tie.After-snapshot) → Fits (at-read c ++ what-wanted c) (read c .args .at) (read c .args .out .now)
+unfolding snapshot-line
+read-fits c = known-fits snapshot-line (c .snapshot .given .1) (read c .args .out .now) (read c .args .at) (read c .pre)
 
 -- the two parts of a wrong write's line, which has room
 abbrev at-step : tie.After-snapshot2 → List ℕ
@@ -65,11 +79,19 @@ slice-aggregate-put-item : tie.Need-slice-aggregate-put-item
 slice-aggregate-put-item c = search needs
 
 put-item-requires : tie.Need-put-item-requires
-unfolding snapshot-line bytes
+unfolding bytes
 put-item-requires c κs =
     let d = c .before .before .before in
     let s = read d in
-    known-fits snapshot-line (d .snapshot .given .1) (s .args .out .now) (s .args .at) (s .pre)
+    first-fits (at-read d) (what-wanted d) (s .args .out .now) (s .args .at) (read-fits d)
+
+put-wants-requires : tie.Need-put-wants-requires
+unfolding bytes
+put-wants-requires c κs =
+    let p = c .before .before .before in
+    let d = said-read p in
+    let s = read d in
+    then-fits (at-read d) (what-wanted d) (s .args .out .now) (s .args .at) (read-fits d) (p .put-item .ensures)
 
 enum-known-snapshot-2 : tie.Need-enum-known-snapshot-2
 enum-known-snapshot-2 c = search needs
@@ -114,9 +136,12 @@ same-length-2 c = search needs
 returns-2 : tie.Need-returns-2
 unfolding snapshot-line bytes
 returns-2 c =
-    let p = c .before .before in
-    let s = read (said-read p) in
-    known-puts snapshot-line (said-read p .snapshot .given .1) (s .args .out .now) (s .args .at) (p .put-item .ensures)
+    let q = c .before .before in
+    let p = said-wants q in
+    let d = said-read p in
+    let s = read d in
+    known-puts snapshot-line (d .snapshot .given .1) (s .args .out .now) (s .args .at)
+    (both-put (at-read d) (what-wanted d) (s .args .out .now) (s .args .at) (read-fits d) (p .put-item .ensures) (q .put-wants .ensures))
 
 same-length-3 : tie.Need-same-length-3
 same-length-3 c = search needs
@@ -141,6 +166,7 @@ put-snapshot-spec =
     enum-known-snapshot
     slice-aggregate-put-item
     put-item-requires
+    put-wants-requires
     enum-known-snapshot-2
     slice-aggregate-put-item-2
     put-item-requires-2

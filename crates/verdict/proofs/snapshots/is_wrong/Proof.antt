@@ -1,14 +1,13 @@
 -- `is_wrong` meets its contract.
-use mathlib.Core.Path.{_≡_, sym, _∙_}
+use mathlib.Core.Path.{_≡_, sym, ap, _∙_}
 use mathlib.Core.Bool.{Bool, true}
-use native.Mathlib.Omega.{arith}
 use borrow.Author.Needs.{needs}
 use borrow.Author.Tests.{not-true, not-false}
 use Rattle.words.specs.Tests.{_is_}
-use Rattle.words.proofs.Truth.{not-fails, lowest-bound}
+use Rattle.words.proofs.Truth.{not-fails}
 use Rattle.verdict.specs.Log.{steps, tx, committed}
 use Rattle.verdict.specs.Clean.{judged-other}
-use Rattle.verdict.specs.Inner.Marks.{does}
+use Rattle.verdict.specs.Snapshot.{writer-number}
 use Rattle.verdict.proofs.JudgedReads.{other-kind, own-source, reader-fails, judged-read}
 use Rattle.verdict.proofs.StepLaws.{by-commits}
 use Rattle.verdict.proofs.SnapshotLaws.{not-wrong, names-another}
@@ -53,21 +52,17 @@ seen-requires c κs = search needs
 returns-3 : tie.Need-returns-3
 returns-3 c = sym (not-wrong _ _ (reader-fails _ _ (reader (c .before) (not-true _ (c .if3 .taken)))))
 
-first-step-requires : tie.Need-first-step-requires
-first-step-requires c κs = search needs
+wanted-requires : tie.Need-wanted-requires
+wanted-requires c κs = search needs
 
-last-committed-requires : tie.Need-last-committed-requires
-unfolding steps
-last-committed-requires c κs =
-    let here = other (c .before .before) in
-    let log = entry here .args .log .now in
-    (entry here .pre .0, omega (arith, c .first-step .ensures, lowest-bound {n = steps log} (does log 1 (read here .step-at .result .tx))))
+number-of-requires : tie.Need-number-of-requires
+number-of-requires c κs = search needs
 
 returns-4 : tie.Need-returns-4
 unfolding _is_
 returns-4 c =
     let judged = c .before .before in
-    not-fails _ ∙ names-another _ _ (read (other (judged .before)) .step-at .ensures) (is-judged judged) (c .before .first-step .ensures) (c .last-committed .ensures)
+    not-fails _ ∙ names-another _ _ (read (other (judged .before)) .step-at .ensures) (is-judged judged) (c .number-of .ensures ∙ ap writer-number (c .before .wanted .ensures))
 
 pub is-wrong-spec : {M : Type 1} → statement M
 is-wrong-spec =
@@ -78,6 +73,6 @@ is-wrong-spec =
     returns-2
     seen-requires
     returns-3
-    first-step-requires
-    last-committed-requires
+    wanted-requires
+    number-of-requires
     returns-4)

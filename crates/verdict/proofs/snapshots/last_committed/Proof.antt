@@ -1,7 +1,7 @@
 -- `last_committed` meets its contract.
-use mathlib.Core.Path.{_≡_, refl, sym, _∙_}
+use mathlib.Core.Path.{_≡_, refl, sym, ap, _∙_}
 use mathlib.Core.Bool.{Bool}
-use Prim.Native.Nat.{_-_, _*_, _≤_}
+use Prim.Native.Nat.{ℕ, _-_, _*_, _≤_}
 use native.Mathlib.Omega.{arith}
 use lib.ListN.{length}
 use Rattle.words.proofs.Truth.{and-true, and-no-left, →is, →isnt}
@@ -10,6 +10,7 @@ use Rattle.verdict.specs.Log.{steps, tx, commits-writer}
 use Rattle.verdict.specs.Refusal.{log-refusal}
 use Rattle.verdict.specs.Snapshot.{last-committed}
 use Rattle.verdict.specs.declared.answers.Checked.the-variants.{Passed}
+use Rattle.verdict.specs.declared.answers.Writer.the-variants.{Committed}
 use Rattle.verdict.proofs.WellFormed.{well-formed}
 use Rattle.verdict.proofs.Noting.{by-mark}
 use Rattle.verdict.proofs.SnapshotLaws.{last-none, found-back, further-back}
@@ -64,7 +65,7 @@ returns : tie.Need-returns Inv-loop μ-loop
 returns c =
     let here = read (c .before) in
     let loop = head here .loop in
-    here .before .step-at .ensures .tx-is ∙ sym (loop .inv .3 ∙ found-back _ _ (loop .j) (omega arith) (by-writers (c .before) (c .if2 .taken)))
+    ap (λ (t : ℕ). Committed t (loop .j - 1)) (here .before .step-at .ensures .tx-is) ∙ sym (loop .inv .3 ∙ found-back _ _ (loop .j) (omega arith) (by-writers (c .before) (c .if2 .taken)))
 
 loop-less : tie.Need-loop-less Inv-loop μ-loop
 loop-less c = omega arith
