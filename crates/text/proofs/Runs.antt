@@ -1,6 +1,6 @@
 -- The lines of a log, one after another: one step more, and how far a pass over them has gone.
 use mathlib.Core.Path.{_≡_, refl, sym, ap, subst, _∙_}
-use mathlib.Core.Bool.{Bool, true, false}
+use mathlib.Core.Bool.{true}
 use mathlib.Core.List.{List, [], _∷_, _++_, append-nil, append-assoc}
 use Prim.Native.Nat.{ℕ, suc, _+_, _*_, _≤_}
 use native.Mathlib.Omega.{arith}
@@ -51,60 +51,41 @@ module _ (k t x s : ℕ) where
   lines-last {n} m = rw (add-one n) (lines-last′ m)
 
 -- a pass from `at` on, with the buffer `before`, has gone over i lines to `place` and left `buffer`
-pub record Gone (text : List ℕ) (at : ℕ) (keep : Bool) (before : List ℕ) (i place : ℕ) (buffer : List ℕ) : Type 0 where
+pub record Gone (text : List ℕ) (at : ℕ) (before : List ℕ) (i place : ℕ) (buffer : List ℕ) : Type 0 where
   pub log : List ℕ
   pub each : Steps i log
   pub over : drop at text ≡ lines i log ++ drop place text
-  pub holds : buffer ≡ kept keep log before
+  pub holds : buffer ≡ kept log before
 
-kept-none : (keep : Bool) (before : List ℕ) → before ≡ kept keep [] before
+pub gone-nowhere : (text : List ℕ) (at : ℕ) (before : List ℕ) → Gone text at before 0 at before
 unfolding kept
-kept-none true before = refl
-kept-none false before = refl
-
-pub gone-nowhere : (text : List ℕ) (at : ℕ) (keep : Bool) (before : List ℕ) → Gone text at keep before 0 at before
-gone-nowhere text at keep before =
-    record { log = []; each = no-step; over = sym (ap (λ (u : List ℕ). u ++ drop at text) (lines-none [])); holds = kept-none keep before }
+gone-nowhere text at before =
+    record { log = []; each = no-step; over = sym (ap (λ (u : List ℕ). u ++ drop at text) (lines-none [])); holds = refl }
 
 -- numbers put behind those of the log
-kept-more : (log w before : List ℕ) (at : ℕ) → length log ≡ at → put-at at w (kept true log before) ≡ kept true (log ++ w) before
+kept-more : (log w before : List ℕ) (at : ℕ) → length log ≡ at → put-at at w (kept log before) ≡ kept (log ++ w) before
 unfolding kept put-at
 kept-more log w before at e =
     rw (take-at log (drop (length log) before) at e)
     (rw (sym e, drop-append-add log (drop (length log) before) (length w), drop-drop (length w) (length log) before, length-append log w) refl)
 
--- one line more: its step is kept, or not
-module _ {text : List ℕ} {at : ℕ} {before : List ℕ} {i place : ℕ} {buffer : List ℕ} (k t x s next : ℕ) (f : FindsLine text place (At k t x s next)) where
-  more-over : {keep : Bool} (g : Gone text at keep before i place buffer) → drop at text ≡ lines (i + 1) (g .log ++ four k t x s) ++ drop next text
-  more-over g =
-      g .over
-      ∙ ap (λ (u : List ℕ). lines i (g .log) ++ u) (f .2)
-      ∙ sym (append-assoc (lines i (g .log)) (line k t x s) (drop next text))
-      ∙ ap (λ (u : List ℕ). u ++ drop next text) (sym (lines-last k t x s (g .each)))
-
-  pub gone-on : {keep : Bool} (buffer′ : List ℕ) → keep ≡ false → buffer′ ≡ buffer
-      → Gone text at keep before i place buffer → Gone text at keep before (i + 1) next buffer′
-  unfolding kept
-  gone-on {keep = true} buffer′ e b g = let z : _≡_ {A = ℕ} 0 1 = cc in absurd (omega arith)
-  gone-on {keep = false} buffer′ e b g =
-      record { log = g .log ++ four k t x s; each = steps-last k t x s (g .each) (f .0); over = more-over g; holds = b ∙ g .holds }
-
-  pub gone-on-keeping : {keep : Bool} (buffer′ : List ℕ) → keep ≡ true → buffer′ ≡ put-at (4 * i) (four k t x s) buffer
-      → Gone text at keep before i place buffer → Gone text at keep before (i + 1) next buffer′
-  gone-on-keeping {keep = true} buffer′ e b g =
-      record {
-        log = g .log ++ four k t x s;
-        each = steps-last k t x s (g .each) (f .0);
-        over = more-over g;
-        holds =
-            b
-            ∙ ap (put-at (4 * i) (four k t x s)) (g .holds)
-            ∙ kept-more (g .log) (four k t x s) before (4 * i) (steps-length (g .each));
-      }
-  gone-on-keeping {keep = false} buffer′ e b g = let z : _≡_ {A = ℕ} 0 1 = cc in absurd (omega arith)
+-- one line more
+pub gone-on : {text : List ℕ} {at : ℕ} {before : List ℕ} {i place : ℕ} {buffer : List ℕ} (k t x s next : ℕ) → FindsLine text place (At k t x s next)
+    → (buffer′ : List ℕ) → buffer′ ≡ put-at (4 * i) (four k t x s) buffer → Gone text at before i place buffer → Gone text at before (i + 1) next buffer′
+gone-on {text} {before} {i} k t x s next f buffer′ b g =
+    record {
+      log = g .log ++ four k t x s;
+      each = steps-last k t x s (g .each) (f .0);
+      over =
+          g .over
+          ∙ ap (λ (u : List ℕ). lines i (g .log) ++ u) (f .2)
+          ∙ sym (append-assoc (lines i (g .log)) (line k t x s) (drop next text))
+          ∙ ap (λ (u : List ℕ). u ++ drop next text) (sym (lines-last k t x s (g .each)));
+      holds = b ∙ ap (put-at (4 * i) (four k t x s)) (g .holds) ∙ kept-more (g .log) (four k t x s) before (4 * i) (steps-length (g .each));
+    }
 
 -- a pass that has gone over all lines
-pub gone-over : {text : List ℕ} {at : ℕ} {keep : Bool} {before : List ℕ} {i place : ℕ} {buffer : List ℕ} (n : ℕ) → i ≡ n → place ≤ length text
-    → Gone text at keep before i place buffer → Passes text at n keep before (To place) buffer
+pub gone-over : {text : List ℕ} {at : ℕ} {before : List ℕ} {i place : ℕ} {buffer : List ℕ} (n : ℕ) → i ≡ n → place ≤ length text
+    → Gone text at before i place buffer → Passes text at n before (To place) buffer
 gone-over {text} {at} {place} n e h g =
     (g .log, subst (λ (m : ℕ). Steps m (g .log)) e (g .each), h, subst (λ (m : ℕ). drop at text ≡ lines m (g .log) ++ drop place text) e (g .over), g .holds)

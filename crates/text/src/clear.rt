@@ -1,21 +1,9 @@
-// Lent buffers set to 0 from an entry on, of numbers and of bytes.
+// A lent buffer set to 0 from a byte on.
 ghost use mathlib.Core.Path.{_≡_};
 ghost use mathlib.Core.List.{_++_};
 ghost use Prim.Native.Nat.{_-_, _≤_};
 ghost use lib.ListN.{length, take};
 ghost use Rattle.words.specs.Lists.{zeros};
-
-// Sets every number from this one on to 0.
-pub(crate) fn clear_from(steps: &mut [u16], from: usize)
-    requires { ⌜ from ≤ length (now steps) ⌝ }
-    ensures { λ _. ⌜ now (steps .exit) ≡ take from (now (steps .entry)) ++ zeros (length (now (steps .entry)) - from) ⌝ }
-{
-    let mut i = from;
-    while i < steps.len() {
-        steps[i] = 0;
-        i += 1;
-    }
-}
 
 // Sets every byte from this one on to 0.
 pub(crate) fn clear_bytes_from(out: &mut [u8], from: usize)

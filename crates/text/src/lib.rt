@@ -17,7 +17,6 @@ ghost use Rattle.text.specs.Line.{header};
 ghost use Rattle.text.specs.Reading.{Reading};
 ghost use Rattle.text.specs.ReadCall.{step-entries, ReadCall};
 ghost use Rattle.text.specs.Inner.ReadsCall.{ReadsCall};
-use crate::clear::clear_from;
 use crate::line::Lines;
 use crate::line::pass;
 use crate::number::Number;
@@ -71,20 +70,32 @@ fn read_header(text: &[u8], steps: &mut [u16]) -> TextAnswer
     read_steps(text, at, n, steps)
 }
 
-// Reads the n lines behind a header: first a pass that only looks, and then, where the text is in form, one that fills the buffer.
+// Copies a run of numbers into a lent one.
+fn copy(steps: &mut [u16], found: &[u16])
+    requires { ⌜ length (now found) ≡ length (now steps) ⌝ }
+    ensures { λ _. ⌜ now (steps .exit) ≡ now (found .entry) ⌝ }
+{
+    let mut i = 0;
+    while i < steps.len() {
+        steps[i] = found[i];
+        i += 1;
+    }
+}
+
+// Reads the n lines behind a header into a run of its own, and copies that into the buffer only where the text is in form.
 fn read_steps(text: &[u8], at: usize, n: usize, steps: &mut [u16]) -> TextAnswer
     requires { ⌜ (at ≤ length (now text)) × (now text ≡ header n ++ drop at (now text)) × (n ≤ most-steps) × (length (now steps) ≡ step-entries) ⌝ }
     ensures { λ r. ⌜ ReadsCall (Reading (now (text .entry))) (now (text .entry)) (now (steps .entry)) r (now (steps .exit)) ⌝ }
 {
-    let seen = pass(text, at, n, steps, false);
+    let mut found = [0u16; 4 * Log::LIMIT];
+    let seen = pass(text, at, n, &mut found);
     match seen {
         Lines::Bad(i) => TextAnswer::Refused(16, i + 1),
         Lines::To(end) => {
             if end < text.len() {
                 return TextAnswer::Refused(16, n + 1);
             }
-            pass(text, at, n, steps, true);
-            clear_from(steps, 4 * n);
+            copy(steps, &found);
             TextAnswer::Accepted(n)
         }
     }

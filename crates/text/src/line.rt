@@ -77,10 +77,10 @@ fn put_step(steps: &mut [u16], i: usize, k: u16, t: u16, x: u16, s: u16)
     steps[a + 3] = s;
 }
 
-// Goes over n lines from this place on. Where `keep` is set it puts each step in the buffer.
-pub(crate) fn pass(text: &[u8], at: usize, n: usize, steps: &mut [u16], keep: bool) -> Lines
+// Goes over n lines from this place on, and puts the step of each in the buffer.
+pub(crate) fn pass(text: &[u8], at: usize, n: usize, steps: &mut [u16]) -> Lines
     requires { ⌜ (at ≤ length (now text)) × (4 * n ≤ length (now steps)) ⌝ }
-    ensures { λ r. ⌜ Passes (now (text .entry)) at n keep (now (steps .entry)) r (now (steps .exit)) ⌝ }
+    ensures { λ r. ⌜ Passes (now (text .entry)) at n (now (steps .entry)) r (now (steps .exit)) ⌝ }
 {
     let mut place = at;
     let mut i = 0;
@@ -88,9 +88,7 @@ pub(crate) fn pass(text: &[u8], at: usize, n: usize, steps: &mut [u16], keep: bo
         let Line::At(k, t, x, s, next) = line_at(text, place) else {
             return Lines::Bad(i);
         };
-        if keep {
-            put_step(steps, i, k, t, x, s);
-        }
+        put_step(steps, i, k, t, x, s);
         place = next;
         i += 1;
     }

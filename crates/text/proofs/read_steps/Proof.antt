@@ -1,8 +1,11 @@
--- `read_steps` meets its contract: the first pass says which refusal applies, and the second fills the buffer.
+-- `read_steps` meets its contract: the pass says which refusal applies, or the steps, which are then copied.
 use borrow.Author.Needs.{needs}
 use native.Mathlib.Omega.{arith}
-use mathlib.Core.Path.{subst, _∙_}
-use mathlib.Core.Bool.{false}
+use mathlib.Core.Path.{subst}
+use mathlib.Core.List.{List}
+use Prim.Native.Nat.{ℕ}
+use lib.ListN.{replicate}
+use Rattle.text.specs.ReadCall.{step-entries}
 use Rattle.text.specs.Inner.Finds.{Passes}
 use Rattle.text.specs.declared.line.Lines.{Lines}
 use Rattle.text.specs.declared.line.Lines.the-variants.{To, Bad}
@@ -10,27 +13,30 @@ use Rattle.text.proofs.Calls.{a-bad-line, extra-bytes, all-read}
 use Rattle.text.proofs.read_steps.Statement.{statement}
 use Rattle.text.proofs.read_steps.Tie as tie
 
--- the entry, from the first pass
+-- the entry, from the pass; and the pass, from where its answer is known
 abbrev entry : tie.After-pass → tie.Start
 entry c = c .before .before .before .before
 
--- the first pass keeps nothing; what it has found, where its answer is known
-abbrev First : tie.After-pass → Lines → Type 0
-First c r =
+abbrev stopped : tie.After-seen → tie.After-pass
+stopped c = c .before .before .before
+
+abbrev ended : tie.After-seen2 → tie.After-pass
+ended c = c .before .before .before
+
+-- what the pass has found, in a run of its own that was all 0, where its answer is known
+abbrev Finds : tie.After-pass → Lines → Type 0
+Finds c r =
     let a = entry c .args in
-    Passes (a .text .now) (a .at) (a .n) false (a .steps .now) r (c .pass .last .1 .1 .1 .0)
+    Passes (a .text .now) (a .at) (a .n) (replicate step-entries 0) r (c .pass .last .1 .1 .1 .0)
 
-abbrev looked : tie.After-seen → tie.After-pass
-looked c = c .before .before .before .before
+found-bad : (c : tie.After-seen) → Finds (stopped c) (Bad (c .seen .given .0 .0))
+found-bad c = subst (Finds (stopped c)) (c .seen .given .1) (stopped c .pass .ensures)
 
-looked-bad : (c : tie.After-seen) → First (looked c) (Bad (c .seen .given .0 .0))
-looked-bad c = subst (First (looked c)) (c .seen .given .1) (looked c .pass .ensures)
+found-fine : (c : tie.After-seen2) → Finds (ended c) (To (c .seen2 .given .0 .0))
+found-fine c = subst (Finds (ended c)) (c .seen2 .given .1) (ended c .pass .ensures)
 
-abbrev looked2 : tie.After-seen2 → tie.After-pass
-looked2 c = c .before .before .before .before
-
-looked-fine : (c : tie.After-seen2) → First (looked2 c) (To (c .seen2 .given .0 .0))
-looked-fine c = subst (First (looked2 c)) (c .seen2 .given .1) (looked2 c .pass .ensures)
+slice-aggregate-pass : tie.Need-slice-aggregate-pass
+slice-aggregate-pass c = search needs
 
 pass-requires : tie.Need-pass-requires
 pass-requires c κs = search needs
@@ -38,71 +44,55 @@ pass-requires c κs = search needs
 enum-known-seen : tie.Need-enum-known-seen
 enum-known-seen c = search needs
 
-add-t11 : tie.Need-add-t11
-add-t11 c = omega (arith, looked-bad (c .before) .2)
+add-t12 : tie.Need-add-t12
+add-t12 c = omega (arith, found-bad (c .before) .2)
 
 enum-known-seen-2 : tie.Need-enum-known-seen-2
 enum-known-seen-2 c = search needs
 
-add-t14 : tie.Need-add-t14
-add-t14 c = search needs
+add-t15 : tie.Need-add-t15
+add-t15 c = search needs
+
+returns : tie.Need-returns
+returns c =
+    let b = entry (ended (c .before .before)) in
+    extra-bytes (b .args .text .now) (b .args .at) (b .args .n) (b .pre .1) (b .pre .2) (b .args .steps .now) _ _ _ (found-fine (c .before .before)) (c .if1 .taken)
+
+slice-aggregate-copy : tie.Need-slice-aggregate-copy
+slice-aggregate-copy c = search needs
+
+copy-requires : tie.Need-copy-requires
+copy-requires c κs = search needs
+
+returns-2 : tie.Need-returns-2
+returns-2 c =
+    let b = entry (stopped (c .before)) in
+    a-bad-line (b .args .text .now) (b .args .at) (b .args .n) (b .pre .1) (b .pre .2) (b .args .steps .now) _ (found-bad (c .before))
 
 same-length : tie.Need-same-length
 same-length c = search needs
 
-returns : tie.Need-returns
-returns c =
-    let b = entry (looked2 (c .before .before)) in
-    extra-bytes (b .args .text .now) (b .args .at) (b .args .n) (b .pre .1) (b .pre .2) (b .args .steps .now) _ (looked-fine (c .before .before)) (c .if1 .taken)
-
-pass-requires-2 : tie.Need-pass-requires-2
-pass-requires-2 c κs = search needs
-
-mul-clear-from : tie.Need-mul-clear-from
-mul-clear-from c = search needs
-
-clear-from-requires : tie.Need-clear-from-requires
-clear-from-requires c κs = search needs
-
-same-length-2 : tie.Need-same-length-2
-same-length-2 c = search needs
-
-returns-2 : tie.Need-returns-2
-returns-2 c =
-    let b = entry (looked (c .before)) in
-    a-bad-line (b .args .text .now) (b .args .at) (b .args .n) (b .pre .1) (b .pre .2) (b .args .steps .now) _ (looked-bad (c .before))
-
-same-length-3 : tie.Need-same-length-3
-same-length-3 c = search needs
-
 returns-3 : tie.Need-returns-3
 returns-3 c =
-    let z = c .before .before in
-    let d = z .before .before .before .before in
-    let e = d .before .before in
-    let f = e .before .before in
-    let b = entry (looked2 f) in
-    all-read (b .args .text .now) (b .args .at) (b .args .n) (b .pre .1) (b .pre .2) (b .args .steps .now)
-    (looked2 f .pass .last .1 .1 .1 .0) (d .pass2 .last .1 .1 .1 .0) _ (d .pass2 .result)
-    (looked-fine f) (e .if1 .left) (d .pass2 .ensures)
-    (d .pass2 .kept .1 .1 .1 .0 ∙ looked2 f .pass .kept .1 .1 .1 .0 ∙ b .pre .3)
-    (z .clear-from .ensures)
+    let copied = c .before .before in
+    let whole = copied .before .before .before in
+    let f = whole .before .before in
+    let b = entry (ended f) in
+    all-read (b .args .text .now) (b .args .at) (b .args .n) (b .pre .1) (b .pre .2) (b .args .steps .now) _ (found-fine f) (whole .if1 .left) (copied .copy .ensures)
 
 pub read-steps-spec : {M : Type 1} → statement M
 read-steps-spec =
     tie.close
     (tie.spec
+    slice-aggregate-pass
     pass-requires
     enum-known-seen
-    add-t11
+    add-t12
     enum-known-seen-2
-    add-t14
-    same-length
+    add-t15
     returns
-    pass-requires-2
-    mul-clear-from
-    clear-from-requires
-    same-length-2
+    slice-aggregate-copy
+    copy-requires
     returns-2
-    same-length-3
+    same-length
     returns-3)

@@ -36,14 +36,13 @@ abbrev pub FindsLine : (bytes : List ℕ) (at : ℕ) → Line → Type 0
 FindsLine bytes at (a-line.At k t x s next) = (sayable-step k t x s ≡ true) × (next ≤ length bytes) × (drop at bytes ≡ line k t x s ++ drop next bytes)
 FindsLine bytes at a-line.Bad = NoLine (drop at bytes)
 
--- a buffer after a pass over the lines of this log: its steps stand first where they are kept
-unfoldable pub kept : Bool → List ℕ → List ℕ → List ℕ
-kept true log buffer = log ++ drop (length log) buffer
-kept false log buffer = buffer
+-- a buffer after a pass over the lines of this log: its steps stand first
+unfoldable pub kept : List ℕ → List ℕ → List ℕ
+kept log buffer = log ++ drop (length log) buffer
 
 -- a pass over n lines from this place on: all are in form, or i are and what follows does not begin with another
-abbrev pub Passes : (bytes : List ℕ) (at n : ℕ) (keep : Bool) (buffer : List ℕ) → Lines → (buffer′ : List ℕ) → Type 0
-Passes bytes at n keep buffer (the-lines.To next) buffer′ =
-    (log : List ℕ) × Steps n log × (next ≤ length bytes) × (drop at bytes ≡ lines n log ++ drop next bytes) × (buffer′ ≡ kept keep log buffer)
-Passes bytes at n keep buffer (the-lines.Bad i) buffer′ =
-    (log : List ℕ) × (rest : List ℕ) × (i < n) × Steps i log × (drop at bytes ≡ lines i log ++ rest) × NoLine rest × (buffer′ ≡ kept keep log buffer)
+abbrev pub Passes : (bytes : List ℕ) (at n : ℕ) (buffer : List ℕ) → Lines → (buffer′ : List ℕ) → Type 0
+Passes bytes at n buffer (the-lines.To next) buffer′ =
+    (log : List ℕ) × Steps n log × (next ≤ length bytes) × (drop at bytes ≡ lines n log ++ drop next bytes) × (buffer′ ≡ kept log buffer)
+Passes bytes at n buffer (the-lines.Bad i) buffer′ =
+    (log : List ℕ) × (rest : List ℕ) × (i < n) × Steps i log × (drop at bytes ≡ lines i log ++ rest) × NoLine rest

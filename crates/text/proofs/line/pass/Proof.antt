@@ -1,23 +1,22 @@
 -- `pass` meets its contract. At each turn it has gone over `i` lines, and the buffer is as `kept` says.
 use borrow.Author.Needs.{needs}
 use native.Mathlib.Omega.{arith}
-use mathlib.Core.Path.{_≡_, refl, ap, subst, _∙_}
-use mathlib.Core.Logic.{⊎-elim}
+use mathlib.Core.Path.{_≡_, refl, subst, _∙_}
 use mathlib.Core.List.{List}
 use Prim.Native.Nat.{ℕ, _-_, _≤_}
 use lib.ListN.{length}
 use Rattle.text.specs.Inner.Finds.{FindsLine}
 use Rattle.text.specs.declared.line.Line.the-variants.{At}
-use Rattle.text.proofs.Runs.{Gone, gone-nowhere, gone-on, gone-on-keeping, gone-over}
+use Rattle.text.proofs.Runs.{Gone, gone-nowhere, gone-on, gone-over}
 use Rattle.text.proofs.line.pass.Statement.{statement}
 use Rattle.text.proofs.line.pass.Tie as tie
 
 abbrev Inv-loop : tie.InvT-loop
-Inv-loop text at n steps₀ keep place₀ i₀ steps place i =
-    (i ≤ n) × (place ≤ length text) × (length steps ≡ length steps₀) × Gone text at keep steps₀ i place steps
+Inv-loop text at n steps₀ place₀ i₀ steps place i =
+    (i ≤ n) × (place ≤ length text) × (length steps ≡ length steps₀) × Gone text at steps₀ i place steps
 
 abbrev μ-loop : tie.MeasureT-loop
-μ-loop text at n steps₀ keep place₀ i₀ steps place i = n - i
+μ-loop text at n steps₀ place₀ i₀ steps place i = n - i
 
 abbrev text : tie.In-loop Inv-loop μ-loop → List ℕ
 text c = c .before .before .before .before .args .text .now
@@ -29,7 +28,7 @@ line-there : (c : tie.After-k Inv-loop μ-loop) →
 line-there c = subst (FindsLine (text (c .before .before .before)) (c .before .before .before .before .loop .place)) (c .k .given .1) (c .before .before .line-at .ensures)
 
 loop-holds : tie.Need-loop-holds Inv-loop μ-loop
-loop-holds c = (omega arith, omega arith, refl, gone-nowhere _ _ _ _)
+loop-holds c = (omega arith, omega arith, refl, gone-nowhere _ _ _)
 
 line-at-requires : tie.Need-line-at-requires Inv-loop μ-loop
 line-at-requires c κs = omega arith
@@ -47,7 +46,7 @@ returns : tie.Need-returns Inv-loop μ-loop
 returns c =
     let l = c .before .before .before .before .loop in
     let g = l .inv .3 in
-    (g .log, _, omega arith, g .each, g .over, subst (FindsLine (text (c .before .before .before)) (l .place)) (c .enum-told .given .1) (c .before .before .line-at .ensures), g .holds)
+    (g .log, _, omega arith, g .each, g .over, subst (FindsLine (text (c .before .before .before)) (l .place)) (c .enum-told .given .1) (c .before .before .line-at .ensures))
 
 put-step-requires : tie.Need-put-step-requires Inv-loop μ-loop
 put-step-requires c κs = omega arith
@@ -60,12 +59,11 @@ loop-less c = omega arith
 
 loop-again : tie.Need-loop-again Inv-loop μ-loop
 loop-again c =
-    let f = line-there (c .before .before) in
-    let g = c .before .before .before .before .before .before .loop .inv in
-    ⊎-elim
-    (λ w. (omega arith, f .1, ap length (w .5) ∙ w .2 .kept .0 ∙ g .2, gone-on-keeping _ _ _ _ _ f _ (w .0 .taken) (w .5 ∙ w .2 .ensures) (g .3)))
-    (λ w. (omega arith, f .1, ap length (w .1) ∙ g .2, gone-on _ _ _ _ _ f _ (w .0 .left) (w .1) (g .3)))
-    (c .if1 .came)
+    let p = c .before .before in
+    let there = p .before .before .before in
+    let f = line-there there in
+    let g = there .before .before .before .before .loop .inv in
+    (omega arith, f .1, p .put-step .kept .0 ∙ g .2, gone-on _ _ _ _ _ f _ (p .put-step .ensures) (g .3))
 
 same-length-2 : tie.Need-same-length-2 Inv-loop μ-loop
 same-length-2 c = c .before .loop .inv .2
