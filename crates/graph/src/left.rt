@@ -1,14 +1,16 @@
 // What is left of a graph: the vertices whose marks stand, and the edges between them.
 ghost use mathlib.Core.Path.{_≡_};
-ghost use Prim.Native.Nat.{_≤_};
+ghost use Prim.Native.Nat.{suc, _≤_};
 ghost use Rattle.words.specs.Tests.{_upto_, _and_, some, lowest};
-ghost use Rattle.graph.specs.Matrix.{takes-part, joined};
+ghost use Rattle.graph.specs.Matrix.{vertices, takes-part, joined};
 ghost use Rattle.graph.specs.Inner.Peel.{may-begin};
+use super::MATRIX;
+use super::VERTICES;
 
 // Whether an edge leads from a to b.
-pub(crate) fn joins(m: &[u8; 16384], left: &[u8; 128], a: usize, b: usize) -> bool
-    requires { ⌜ (1 ≤ a) × (a ≤ 128) × (1 ≤ b) × (b ≤ 128) ⌝ }
-    ensures { λ r. ⌜ r ≡ joined 128 (now (m .entry)) (now (left .entry)) a b ⌝ }
+pub(crate) fn joins(m: &[u8; MATRIX], left: &[u8; VERTICES], a: usize, b: usize) -> bool
+    requires { ⌜ (1 ≤ a) × (a ≤ vertices) × (1 ≤ b) × (b ≤ vertices) ⌝ }
+    ensures { λ r. ⌜ r ≡ joined vertices (now (m .entry)) (now (left .entry)) a b ⌝ }
 {
     if a == b {
         return false;
@@ -19,16 +21,16 @@ pub(crate) fn joins(m: &[u8; 16384], left: &[u8; 128], a: usize, b: usize) -> bo
     if left[b - 1] == 0 {
         return false;
     }
-    m[(a - 1) * 128 + (b - 1)] != 0
+    m[(a - 1) * VERTICES + (b - 1)] != 0
 }
 
 // Whether an edge leads to b.
-fn blocked(m: &[u8; 16384], left: &[u8; 128], b: usize) -> bool
-    requires { ⌜ (1 ≤ b) × (b ≤ 128) ⌝ }
-    ensures { λ r. ⌜ r ≡ some 129 (λ a. joined 128 (now (m .entry)) (now (left .entry)) a b) ⌝ }
+fn blocked(m: &[u8; MATRIX], left: &[u8; VERTICES], b: usize) -> bool
+    requires { ⌜ (1 ≤ b) × (b ≤ vertices) ⌝ }
+    ensures { λ r. ⌜ r ≡ some (suc vertices) (λ a. joined vertices (now (m .entry)) (now (left .entry)) a b) ⌝ }
 {
     let mut a: usize = 1;
-    while a <= 128 {
+    while a <= VERTICES {
         if joins(m, left, a, b) {
             return true;
         }
@@ -38,13 +40,13 @@ fn blocked(m: &[u8; 16384], left: &[u8; 128], b: usize) -> bool
 }
 
 // Whether an order of what is left may begin with v.
-pub(crate) fn begins(m: &[u8; 16384], left: &[u8; 128], v: usize) -> bool
+pub(crate) fn begins(m: &[u8; MATRIX], left: &[u8; VERTICES], v: usize) -> bool
     ensures { λ r. ⌜ r ≡ may-begin (now (m .entry)) (now (left .entry)) v ⌝ }
 {
     if v == 0 {
         return false;
     }
-    if 128 < v {
+    if VERTICES < v {
         return false;
     }
     if left[v - 1] == 0 {
@@ -53,13 +55,13 @@ pub(crate) fn begins(m: &[u8; 16384], left: &[u8; 128], v: usize) -> bool
     !blocked(m, left, v)
 }
 
-// The lowest vertex from start on with which an order of what is left may begin, or 129 where there is none.
-pub(crate) fn lowest_beginning(m: &[u8; 16384], left: &[u8; 128], start: usize) -> usize
-    requires { ⌜ start ≤ 129 ⌝ }
-    ensures { λ r. ⌜ r ≡ lowest 129 (λ v. start upto v and may-begin (now (m .entry)) (now (left .entry)) v) ⌝ }
+// The lowest vertex from start on with which an order of what is left may begin, or the number behind the last vertex.
+pub(crate) fn lowest_beginning(m: &[u8; MATRIX], left: &[u8; VERTICES], start: usize) -> usize
+    requires { ⌜ start ≤ (suc vertices) ⌝ }
+    ensures { λ r. ⌜ r ≡ lowest (suc vertices) (λ v. start upto v and may-begin (now (m .entry)) (now (left .entry)) v) ⌝ }
 {
     let mut v = start;
-    while v <= 128 {
+    while v <= VERTICES {
         if begins(m, left, v) {
             return v;
         }
@@ -69,11 +71,11 @@ pub(crate) fn lowest_beginning(m: &[u8; 16384], left: &[u8; 128], start: usize) 
 }
 
 // Whether any vertex is left.
-pub(crate) fn some_left(left: &[u8; 128]) -> bool
-    ensures { λ r. ⌜ r ≡ some 129 (takes-part 128 (now (left .entry))) ⌝ }
+pub(crate) fn some_left(left: &[u8; VERTICES]) -> bool
+    ensures { λ r. ⌜ r ≡ some (suc vertices) (takes-part vertices (now (left .entry))) ⌝ }
 {
     let mut v: usize = 1;
-    while v <= 128 {
+    while v <= VERTICES {
         if left[v - 1] != 0 {
             return true;
         }

@@ -10,6 +10,11 @@ ghost use mathlib.Core.Path.{_≡_};
 ghost use mathlib.Core.Bool.{true};
 ghost use Rattle.graph.specs.Matrix.{vertices, matrix-order, Sorts, Follows};
 
+// How many vertices a graph may have, and how many bytes the matrix of its edges has.
+pub const VERTICES: usize = 128;
+
+pub const MATRIX: usize = VERTICES * VERTICES;
+
 // What a list that is shown is: an order of all vertices that take part, or a cycle.
 pub enum Shape {
     Order,
@@ -19,7 +24,7 @@ pub enum Shape {
 // What `sort` shows: its shape, its members with zeros behind them, and how many members it has.
 pub struct Shown {
     pub shape: Shape,
-    pub list: [u16; 128],
+    pub list: [u16; VERTICES],
     pub count: usize,
 }
 
@@ -27,20 +32,20 @@ pub struct Shown {
 // of it is 0.
 pub struct Later {
     pub found: bool,
-    pub list: [u16; 128],
+    pub list: [u16; VERTICES],
     pub count: usize,
 }
 
 // The first order, or else the first shortest cycle.
-pub fn sort(m: &[u8; 16384], part: [u8; 128]) -> Shown
+pub fn sort(m: &[u8; MATRIX], part: [u8; VERTICES]) -> Shown
     ensures { λ r. ⌜ Sorts vertices (now (m .entry)) part r ⌝ }
 {
-    let mut list = [0u16; 128];
+    let mut list = [0u16; VERTICES];
     let p = order::lay_down(&mut list, m, part, 0);
     let left = p.left;
     let count = p.count;
     if left::some_left(&left) {
-        let mut ring = [0u16; 128];
+        let mut ring = [0u16; VERTICES];
         let members = cycle::cycle(&mut ring, m, &part);
         return Shown {
             shape: Shape::Cycle,
@@ -56,11 +61,11 @@ pub fn sort(m: &[u8; 16384], part: [u8; 128]) -> Shown
 }
 
 // The first order that comes later than the given one and keeps every edge.
-pub fn next(m: &[u8; 16384], part: [u8; 128], given: &[u16]) -> Later
+pub fn next(m: &[u8; MATRIX], part: [u8; VERTICES], given: &[u16]) -> Later
     requires { ⌜ matrix-order vertices (now m) part (now given) ≡ true ⌝ }
     ensures { λ r. ⌜ Follows vertices (now (m .entry)) part (now (given .entry)) r ⌝ }
 {
-    let mut later = [0u16; 128];
+    let mut later = [0u16; VERTICES];
     let count = onward::follow(&mut later, m, part, given, 0);
     Later {
         found: 0 < count,

@@ -1,9 +1,11 @@
 // Orders: every vertex that takes part once, keeping every edge.
 ghost use mathlib.Core.Path.{_≡_};
-ghost use Prim.Native.Nat.{_+_, _≤_};
+ghost use Prim.Native.Nat.{suc, _+_, _≤_};
 ghost use Rattle.words.specs.Tests.{count};
 ghost use Rattle.graph.specs.Matrix.{vertices, takes-part, matrix-order};
 ghost use Rattle.graph.specs.Inner.Laying.{Places};
+use super::MATRIX;
+use super::VERTICES;
 use super::left::begins;
 use super::left::lowest_beginning;
 use super::left::some_left;
@@ -11,11 +13,11 @@ use super::left::some_left;
 // What was placed: how many entries of the list stand, and the marks of what is left.
 pub(crate) struct Placing {
     pub count: usize,
-    pub left: [u8; 128],
+    pub left: [u8; VERTICES],
 }
 
 // Whether the given numbers are an order of the vertices that take part and keep every edge.
-pub fn keeps(m: &[u8; 16384], part: [u8; 128], given: &[u16]) -> bool
+pub fn keeps(m: &[u8; MATRIX], part: [u8; VERTICES], given: &[u16]) -> bool
     ensures { λ r. ⌜ r ≡ matrix-order vertices (now (m .entry)) part (now (given .entry)) ⌝ }
 {
     let mut left = part;
@@ -33,18 +35,18 @@ pub fn keeps(m: &[u8; 16384], part: [u8; 128], given: &[u16]) -> bool
 
 // Lays down, from place start on, the lowest vertex that may come next, again and again, until there is none.
 pub(crate) fn lay_down(
-    list: &mut [u16; 128],
-    m: &[u8; 16384],
-    part: [u8; 128],
+    list: &mut [u16; VERTICES],
+    m: &[u8; MATRIX],
+    part: [u8; VERTICES],
     start: usize,
 ) -> Placing
-    requires { ⌜ start + count 129 (takes-part 128 part) ≤ 128 ⌝ }
+    requires { ⌜ start + count (suc vertices) (takes-part vertices part) ≤ vertices ⌝ }
     ensures { λ r. ⌜ Places (now (m .entry)) part start (now (list .entry)) (r .count) (r .left) (now (list .exit)) ⌝ }
 {
     let mut left = part;
     let mut n = start;
     let mut v = lowest_beginning(m, &left, 1);
-    while v <= 128 {
+    while v <= VERTICES {
         left[v - 1] = 0;
         list[n] = v as u16;
         n += 1;

@@ -3,7 +3,9 @@
 mod make;
 
 use graph::Later;
+use graph::MATRIX;
 use graph::Shape;
+use graph::VERTICES;
 use libc::STDOUT_FILENO;
 
 // Writes the graph's name.
@@ -28,9 +30,9 @@ fn wide(x: u16) -> u64 {
 }
 
 // Writes the first n entries, and ends the line.
-fn list(w: &[u16; 128], n: usize) {
+fn list(w: &[u16; VERTICES], n: usize) {
     let mut i: usize = 0;
-    while i < 128 {
+    while i < VERTICES {
         if i < n {
             io::write_all(STDOUT_FILENO, b" ");
             io::print_decimal(STDOUT_FILENO, wide(w[i]));
@@ -41,12 +43,12 @@ fn list(w: &[u16; 128], n: usize) {
 }
 
 // Writes the next order after the given one, and answers it.
-fn after(m: &[u8; 16384], part: [u8; 128], given: &[u16]) -> Later {
+fn after(m: &[u8; MATRIX], part: [u8; VERTICES], given: &[u16]) -> Later {
     if !graph::keeps(m, part, given) {
         io::write_all(STDOUT_FILENO, b"not an order\n");
         return Later {
             found: false,
-            list: [0u16; 128],
+            list: [0u16; VERTICES],
             count: 0,
         };
     }
@@ -64,11 +66,11 @@ fn after(m: &[u8; 16384], part: [u8; 128], given: &[u16]) -> Later {
 }
 
 // The same after the first n entries of given.
-fn later(m: &[u8; 16384], part: [u8; 128], given: [u16; 128], n: usize) -> Later {
-    if 128 < n {
+fn later(m: &[u8; MATRIX], part: [u8; VERTICES], given: [u16; VERTICES], n: usize) -> Later {
+    if VERTICES < n {
         return Later {
             found: false,
-            list: [0u16; 128],
+            list: [0u16; VERTICES],
             count: 0,
         };
     }
@@ -76,7 +78,7 @@ fn later(m: &[u8; 16384], part: [u8; 128], given: [u16; 128], n: usize) -> Later
 }
 
 // Writes up to four later orders.
-fn nexts(m: &[u8; 16384], part: [u8; 128], first: [u16; 128], n: usize) {
+fn nexts(m: &[u8; MATRIX], part: [u8; VERTICES], first: [u16; VERTICES], n: usize) {
     let mut w = first;
     let mut k = n;
     let mut i: usize = 0;
@@ -91,7 +93,7 @@ fn nexts(m: &[u8; 16384], part: [u8; 128], first: [u16; 128], n: usize) {
 }
 
 // Writes the lines of one graph.
-fn show(m: &mut [u8; 16384], number: u64) {
+fn show(m: &mut [u8; MATRIX], number: u64) {
     let marks = make::parts(number);
     let part = marks.part;
     let state = marks.state;
@@ -116,7 +118,7 @@ fn show(m: &mut [u8; 16384], number: u64) {
 
 // Shows the graphs one after another.
 fn main() {
-    let mut m = [0u8; 16384];
+    let mut m = [0u8; MATRIX];
     let mut number = 0;
     while number < 65 {
         show(&mut m, number);

@@ -1,9 +1,11 @@
 // The graphs that are shown: numbers 0 to 4 by a rule for their edges, and higher numbers drawn.
 ghost use Prim.Native.Nat.{_≤_, _<_};
+use graph::MATRIX;
+use graph::VERTICES;
 
 // Marks, and the state that the next draw starts from.
 pub struct Marks {
-    pub part: [u8; 128],
+    pub part: [u8; VERTICES],
     pub state: u64,
 }
 
@@ -42,7 +44,7 @@ fn ruled(number: u64, a: usize, b: usize) -> bool
         0 => false,
         1 => a - 1 == b,
         2 => b < a,
-        3 => b - 1 == a || a == 128 && b == 1,
+        3 => b - 1 == a || a == VERTICES && b == 1,
         _ => b - 1 == a && 100 <= a || in_rings(a, b),
     }
 }
@@ -59,13 +61,13 @@ fn byte(number: u64, state: u64, a: usize, b: usize) -> u8
 
 // Which vertices take part: all, or in a drawn graph each by a draw.
 pub(crate) fn parts(number: u64) -> Marks {
-    let mut part = [1u8; 128];
+    let mut part = [1u8; VERTICES];
     let mut state = number;
     if 4 < number {
         state = number - 4;
     }
     let mut v = 0;
-    while v < 128 {
+    while v < VERTICES {
         state = draw(state);
         if 4 < number {
             part[v] = hit(state, 12) as u8;
@@ -76,24 +78,24 @@ pub(crate) fn parts(number: u64) -> Marks {
 }
 
 // Writes row a of the matrix, and answers the state after it.
-fn row(m: &mut [u8; 16384], number: u64, start: u64, a: usize) -> u64
+fn row(m: &mut [u8; MATRIX], number: u64, start: u64, a: usize) -> u64
     requires { ⌜ (1 ≤ a) × (a ≤ 128) ⌝ }
 {
     let mut state = start;
     let mut b = 1;
-    while b <= 128 {
+    while b <= VERTICES {
         state = draw(state);
-        m[(a - 1) * 128 + (b - 1)] = byte(number, state, a, b);
+        m[(a - 1) * VERTICES + (b - 1)] = byte(number, state, a, b);
         b += 1;
     }
     state
 }
 
 // Writes the matrix.
-pub(crate) fn edges(m: &mut [u8; 16384], number: u64, start: u64) {
+pub(crate) fn edges(m: &mut [u8; MATRIX], number: u64, start: u64) {
     let mut state = start;
     let mut a = 1;
-    while a <= 128 {
+    while a <= VERTICES {
         state = row(m, number, state, a);
         a += 1;
     }

@@ -7,7 +7,6 @@ use crate::edges::join;
 use crate::edges::show;
 use crate::edges::takes_part;
 use crate::leaving::leave;
-use crate::limits::Log;
 use crate::limits::Transaction;
 use crate::refusal::admit_witness;
 use crate::step::Step;
@@ -86,7 +85,7 @@ pub(crate) fn judge_conflict(log: &[u16]) -> Witnessed
     ensures { λ r. ⌜ Holds (Conflict transactions (now (log .entry))) r ⌝ }
 {
     let part = committed_ones(log);
-    let mut matrix = [0u8; Log::WORK];
+    let mut matrix = [0u8; graph::MATRIX];
     draw(log, &mut matrix, &part);
     show(&matrix, part)
 }

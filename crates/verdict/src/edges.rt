@@ -1,7 +1,6 @@
 // The edges of a graph of transactions, drawn in a matrix of bytes, and what is shown of that graph.
 use crate::answers::Answer;
 use crate::answers::Witnessed;
-use crate::limits::Log;
 use crate::limits::Transaction;
 use crate::step::Step;
 use crate::step::step_at;
@@ -64,7 +63,7 @@ pub(crate) fn join(matrix: &mut [u8], a: u16, b: u16)
 }
 
 // The first order or the first shortest cycle of the graph in a matrix.
-pub(crate) fn show(matrix: &[u8; Log::WORK], part: [u8; Transaction::COUNT]) -> Witnessed
+pub(crate) fn show(matrix: &[u8; graph::MATRIX], part: [u8; Transaction::COUNT]) -> Witnessed
     ensures { λ r. ⌜ Showing (takes-part transactions part) (joined transactions (now (matrix .entry)) part) r ⌝ }
 {
     let found = graph::sort(matrix, part);

@@ -75,7 +75,7 @@ fn not_listed() -> Following
 }
 
 // The next order that graph finds, as an answer.
-fn bring(matrix: &[u8; Log::WORK], part: [u8; Transaction::COUNT], order: &[u16]) -> Witnessed
+fn bring(matrix: &[u8; graph::MATRIX], part: [u8; Transaction::COUNT], order: &[u16]) -> Witnessed
     requires { ⌜ matrix-order transactions (now matrix) part (now order) ≡ true ⌝ }
     ensures { λ r. ⌜ Brings (now (matrix .entry)) part (now (order .entry)) r ⌝ }
 {
@@ -98,7 +98,7 @@ fn bring(matrix: &[u8; Log::WORK], part: [u8; Transaction::COUNT], order: &[u16]
 // The next order in the graph of a clean log, or 14 where the one handed in is not on the list.
 fn follow(
     log: &[u16],
-    matrix: &[u8; Log::WORK],
+    matrix: &[u8; graph::MATRIX],
     part: [u8; Transaction::COUNT],
     order: &[u16],
 ) -> Following
@@ -128,7 +128,7 @@ fn after_order(log: &[u16], order: &[u16]) -> Following
         return not_listed();
     }
     let part = committed_ones(log);
-    let mut matrix = [0u8; Log::WORK];
+    let mut matrix = [0u8; graph::MATRIX];
     draw(log, &mut matrix, &part);
     follow(log, &matrix, part, order)
 }

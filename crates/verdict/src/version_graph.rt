@@ -12,7 +12,6 @@ use crate::edges::show;
 use crate::edges::takes_part;
 use crate::leaving::leave;
 use crate::leaving::without_members;
-use crate::limits::Log;
 use crate::limits::Transaction;
 use crate::refusal::admit_witness;
 use crate::step::Step;
@@ -126,7 +125,7 @@ pub(crate) fn judge_version(log: &[u16], clean: Cleanness) -> Witnessed
         return without_members(Answer::Unclean(fault));
     }
     let part = committed_ones(log);
-    let mut matrix = [0u8; Log::WORK];
+    let mut matrix = [0u8; graph::MATRIX];
     draw(log, &mut matrix, &part);
     show(&matrix, part)
 }
