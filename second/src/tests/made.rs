@@ -12,8 +12,8 @@ fn every_outcome_is_reached() {
     assert!(missed.is_empty(), "{missed:?}\n{}", lines.join("\n"));
 }
 
-/// Of the small logs of any seed at least one in ten has a wrong read, and both
-/// forms of what it wants occur.
+/// Of the small logs of each of ten seeds at least one in ten has a wrong read,
+/// and both forms of what it wants occur.
 #[test]
 fn wrong_reads_are_common() {
     for seed in 1..=10 {
