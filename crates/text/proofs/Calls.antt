@@ -1,18 +1,17 @@
 -- What the parts of `read` answer and leave, put together to its statement.
 use mathlib.Core.Path.{_≡_, refl, sym, ap, _∙_}
 use mathlib.Core.List.{List, [], _∷_, _++_, append-nil, append-assoc}
-use Prim.Native.Nat.{ℕ, zero, suc, _+_, _-_, _≤_, _<_}
-use native.Mathlib.Nat.{zero-sub, sub-zero, suc-sub-suc}
-use native.Mathlib.Omega.{arith}
+use Prim.Native.Nat.{ℕ, _+_, _≤_, _<_}
 use native.Mathlib.Numerals.{add-one}
-use lib.ListN.{length, getD, drop, replicate, drop-of-length-le}
-use Rattle.words.specs.Lists.{zeros, entries}
+use lib.ListN.{length, getD, drop, drop-of-length-le}
+use Rattle.words.specs.Lists.{zeros}
+use Rattle.words.proofs.Entries.{into-zeros}
 use Rattle.verdict.specs.Limits.{most-steps}
 use Rattle.verdict.specs.declared.answers.Checked.{Checked}
 use Rattle.verdict.specs.declared.answers.Checked.the-variants.{Refused}
 use Rattle.verdict.specs.Call.{turned-away, answered}
 use Rattle.text.specs.Line.{header}
-use Rattle.text.specs.Text.{lines, text-of, Steps}
+use Rattle.text.specs.Text.{lines, text-of}
 use Rattle.text.specs.Reading.{Says, Reading, bad-line, extra, in-form}
 use Rattle.text.specs.ReadCall.{most-bytes, step-entries, by-line, said-steps, leaves-steps, ReadCall}
 use Rattle.text.specs.Inner.ReadsCall.{ReadsCall}
@@ -34,11 +33,6 @@ pub lines-decide : {text buffer : List ℕ} {r : TextAnswer} {buffer′ : List �
 lines-decide p q (turned-away n place g x y) = turned-away n place (by-line p q g) x y
 lines-decide p q (answered a g h x y) = answered a (by-line p q g) h x y
 
-drop-zeros : (k n : ℕ) → drop {A = ℕ} k (replicate n 0) ≡ replicate (n - k) 0
-drop-zeros zero n = ap (λ (m : ℕ). replicate m 0) (sym (sub-zero n))
-drop-zeros (suc k) zero = ap (λ (m : ℕ). replicate m 0) (sym (zero-sub (suc k)))
-drop-zeros (suc k) (suc n) = drop-zeros k n ∙ ap (λ (m : ℕ). replicate m 0) (sym (suc-sub-suc n k))
-
 -- behind a header in form, whose number is not above the limit
 module _ (text : List ℕ) (at n : ℕ) (head : text ≡ header n ++ drop at text) (few : n ≤ most-steps) (buffer : List ℕ) where
   behind-header : (i : ℕ) (log rest : List ℕ) → drop at text ≡ lines i log ++ rest → text ≡ header n ++ lines i log ++ rest
@@ -55,9 +49,9 @@ module _ (text : List ℕ) (at n : ℕ) (head : text ≡ header n ++ drop at tex
       away text buffer 16 (n + 1) (rw (add-one n) (extra n (getD text next 0) (p .0) (drop (next + 1) text) few (p .1) (behind-header n (p .0) _ e))) refl
 
   -- the steps, and zeros behind them
-  pub all-read : {found buffer′ : List ℕ} (next : ℕ) → Passes text at n (replicate step-entries 0) (To next) found → length text ≤ next → buffer′ ≡ found
+  pub all-read : {found buffer′ : List ℕ} (next : ℕ) → Passes text at n (zeros step-entries) (To next) found → length text ≤ next → buffer′ ≡ found
       → ReadsCall (Reading text) text buffer (text-answer.Accepted n) buffer′
-  unfolding said-steps leaves-steps kept entries zeros
+  unfolding said-steps leaves-steps kept
   all-read next p h e =
       let log = p .0 in
       let s = p .1 in
@@ -68,4 +62,4 @@ module _ (text : List ℕ) (at n : ℕ) (head : text ≡ header n ++ drop at tex
       in
       let says : Says text log = record { n = n; few = few; each = s; whole = w } in
       answered log (in-form log says) says (ap text-answer.Accepted (sym (steps-count s)))
-      (ap (λ (u : List ℕ). u ∷ []) (e ∙ p .4 ∙ ap (λ (u : List ℕ). log ++ u) (drop-zeros (length log) step-entries)))
+      (ap (λ (u : List ℕ). u ∷ []) (e ∙ p .4 ∙ into-zeros step-entries log))

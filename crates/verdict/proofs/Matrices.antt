@@ -17,12 +17,12 @@ use Rattle.graph.specs.declared.Shape.the-variants as shapes
 use Rattle.graph.specs.declared.Shown.{Shown}
 use Rattle.words.proofs.Truth.{decide, to-false, not-both, not-fails, same-test, and→, →and, and-true, and-no-left, and-no-right, →or-right, or-no, →fails, fails→, →not-fails, is→, isnt→, →is, →isnt, →upto, if-true, if-false, some-skip, some-next}
 use Rattle.graph.proofs.Marks.{part→, →part, joined→, →joined}
-use Rattle.verdict.specs.Limits.{transactions, work-bytes}
+use Rattle.verdict.specs.Limits.{transactions}
 use Rattle.verdict.specs.Log.{steps, kind, tx, commits, committed}
 use Rattle.verdict.specs.Outcome.{order, cycle, said, members, OfGraph, shows-order, shows-cycle}
 use Rattle.verdict.specs.Judgement.{Holds}
 use Rattle.verdict.specs.declared.answers.Witnessed.{Witnessed}
-use Rattle.verdict.specs.Inner.Edges.{kept, one-edge, no-edge, byte-at, with-edge, Drawn, answer-of, Showing}
+use Rattle.verdict.specs.Inner.Edges.{matrix-bytes, kept, one-edge, no-edge, byte-at, with-edge, Drawn, answer-of, Showing}
 use Rattle.verdict.specs.Inner.Marks.{Marked, Committed}
 use Rattle.verdict.proofs.WellFormed.{Well}
 use Rattle.verdict.proofs.Versions.{committed-range}
@@ -68,12 +68,12 @@ apart : (a b s t : ℕ) → (1 ≤ a) × (a ≤ transactions) → (1 ≤ b) × (
     → byte-at a b ≡ byte-at s t → (s ≡ a) × (t ≡ b)
 apart a b s t p q u v e = (omega arith, omega arith)
 
-pub no-edges : {m : List ℕ} → m ≡ zeros work-bytes → Drawn no-edge m
+pub no-edges : {m : List ℕ} → m ≡ zeros matrix-bytes → Drawn no-edge m
 unfolding zeros no-edge
 no-edges {m} e =
     record {
-      size = rw e (length-replicate {A = ℕ} work-bytes 0);
-      byte = λ (a b : ℕ) (p : (1 ≤ a) × (a ≤ transactions)) (q : (1 ≤ b) × (b ≤ transactions)). rw e (→not-fails (→is (getD-replicate work-bytes (byte-at a b) 0 0 (omega arith))));
+      size = rw e (length-replicate {A = ℕ} matrix-bytes 0);
+      byte = λ (a b : ℕ) (p : (1 ≤ a) × (a ≤ transactions)) (q : (1 ≤ b) × (b ≤ transactions)). rw e (→not-fails (→is (getD-replicate matrix-bytes (byte-at a b) 0 0 (omega arith))));
     }
 
 module _ {edge : ℕ → ℕ → Bool} {m : List ℕ} (drawn : Drawn edge m) where

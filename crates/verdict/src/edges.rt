@@ -9,10 +9,10 @@ ghost use mathlib.Core.Path.{_≡_};
 ghost use Prim.Native.Nat.{_≤_};
 ghost use lib.ListN.{length};
 ghost use Rattle.graph.specs.Matrix.{takes-part, joined};
-ghost use Rattle.verdict.specs.Limits.{transactions, work-bytes};
+ghost use Rattle.verdict.specs.Limits.{transactions};
 ghost use Rattle.verdict.specs.Refusal.{log-refusal};
 ghost use Rattle.verdict.specs.Inner.Marks.{Committed};
-ghost use Rattle.verdict.specs.Inner.Edges.{with-edge, Showing};
+ghost use Rattle.verdict.specs.Inner.Edges.{matrix-bytes, with-edge, Showing};
 ghost use Rattle.verdict.specs.declared.answers.Checked.the-variants.{Passed};
 
 // For each transaction, whether it committed.
@@ -45,7 +45,7 @@ pub(crate) fn takes_part(part: &[u8; Transaction::COUNT], t: u16) -> bool
 
 // An edge from a to b more. Edges at writer 0 and from a transaction to itself are dropped.
 pub(crate) fn join(matrix: &mut [u8], a: u16, b: u16)
-    requires { ⌜ (length (now matrix) ≡ work-bytes) × (a ≤ transactions) × (b ≤ transactions) ⌝ }
+    requires { ⌜ (length (now matrix) ≡ matrix-bytes) × (a ≤ transactions) × (b ≤ transactions) ⌝ }
     ensures { λ _. ⌜ now (matrix .exit) ≡ with-edge (now (matrix .entry)) a b ⌝ }
 {
     if a == b {

@@ -22,7 +22,7 @@ use crate::walk::writers;
 ghost use mathlib.Core.Path.{_≡_};
 ghost use Prim.Native.Nat.{suc, _≤_, _+_, _*_};
 ghost use lib.ListN.{length};
-ghost use Rattle.verdict.specs.Limits.{transactions, work-bytes};
+ghost use Rattle.verdict.specs.Limits.{transactions};
 ghost use Rattle.verdict.specs.Log.{kind, tx, obj, src};
 ghost use Rattle.verdict.specs.Refusal.{log-refusal};
 ghost use Rattle.verdict.specs.Clean.{cleanness};
@@ -30,7 +30,7 @@ ghost use Rattle.verdict.specs.Judgement.{Holds};
 ghost use Rattle.verdict.specs.Version.{versions-from, version-edge, Version};
 ghost use Rattle.verdict.specs.Call.{VersionCall};
 ghost use Rattle.verdict.specs.Inner.Marks.{Committed};
-ghost use Rattle.verdict.specs.Inner.Edges.{no-edge, with-edge, Drawn};
+ghost use Rattle.verdict.specs.Inner.Edges.{matrix-bytes, no-edge, with-edge, Drawn};
 ghost use Rattle.verdict.specs.Inner.VersionEdges.{next-writer, versions-until};
 ghost use Rattle.verdict.specs.declared.answers.Checked.the-variants.{Passed};
 
@@ -66,7 +66,7 @@ fn next_writer(log: &[u16], x: u16, v: u16) -> u16
 
 // The edge of a write: from its transaction to the writer of the next version.
 fn mark_write(log: &[u16], matrix: &mut [u8], i: usize)
-    requires { ⌜ (log-refusal (now log) ≡ Passed) × (4 * i + 4 ≤ length (now log)) × (length (now matrix) ≡ work-bytes) ⌝ }
+    requires { ⌜ (log-refusal (now log) ≡ Passed) × (4 * i + 4 ≤ length (now log)) × (length (now matrix) ≡ matrix-bytes) ⌝ }
     ensures { λ _. ⌜ now (matrix .exit) ≡ with-edge (now (matrix .entry)) (tx (now (log .entry)) i) (next-writer (now (log .entry)) (obj (now (log .entry)) i) (tx (now (log .entry)) i)) ⌝ }
 {
     let step = step_at(log, i);
@@ -76,7 +76,7 @@ fn mark_write(log: &[u16], matrix: &mut [u8], i: usize)
 
 // The edges of a read: from its source to the reader, and from the reader to the writer of the version after the one read.
 fn mark_read(log: &[u16], matrix: &mut [u8], i: usize)
-    requires { ⌜ (log-refusal (now log) ≡ Passed) × (4 * i + 4 ≤ length (now log)) × (kind (now log) i ≡ 2) × (length (now matrix) ≡ work-bytes) ⌝ }
+    requires { ⌜ (log-refusal (now log) ≡ Passed) × (4 * i + 4 ≤ length (now log)) × (kind (now log) i ≡ 2) × (length (now matrix) ≡ matrix-bytes) ⌝ }
     ensures { λ _. ⌜ now (matrix .exit) ≡ with-edge (with-edge (now (matrix .entry)) (src (now (log .entry)) i) (tx (now (log .entry)) i)) (tx (now (log .entry)) i) (next-writer (now (log .entry)) (obj (now (log .entry)) i) (src (now (log .entry)) i)) ⌝ }
 {
     let step = step_at(log, i);

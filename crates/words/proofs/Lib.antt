@@ -1,6 +1,7 @@
 -- Laws about these words.
 pub mod Truth
 pub mod Places
+pub mod Entries
 pub mod Dictionary
 pub mod Search
 pub mod Pigeon

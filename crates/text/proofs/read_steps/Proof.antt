@@ -2,9 +2,7 @@
 use borrow.Author.Needs.{needs}
 use native.Mathlib.Omega.{arith}
 use mathlib.Core.Path.{subst}
-use mathlib.Core.List.{List}
-use Prim.Native.Nat.{ℕ}
-use lib.ListN.{replicate}
+use Rattle.words.specs.Lists.{zeros}
 use Rattle.text.specs.ReadCall.{step-entries}
 use Rattle.text.specs.Inner.Finds.{Passes}
 use Rattle.text.specs.declared.line.Lines.{Lines}
@@ -27,12 +25,14 @@ ended c = c .before .before .before
 abbrev Finds : tie.After-pass → Lines → Type 0
 Finds c r =
     let a = entry c .args in
-    Passes (a .text .now) (a .at) (a .n) (replicate step-entries 0) r (c .pass .last .1 .1 .1 .0)
+    Passes (a .text .now) (a .at) (a .n) (zeros step-entries) r (c .pass .last .1 .1 .1 .0)
 
 found-bad : (c : tie.After-seen) → Finds (stopped c) (Bad (c .seen .given .0 .0))
+unfolding zeros
 found-bad c = subst (Finds (stopped c)) (c .seen .given .1) (stopped c .pass .ensures)
 
 found-fine : (c : tie.After-seen2) → Finds (ended c) (To (c .seen2 .given .0 .0))
+unfolding zeros
 found-fine c = subst (Finds (ended c)) (c .seen2 .given .1) (ended c .pass .ensures)
 
 slice-aggregate-pass : tie.Need-slice-aggregate-pass

@@ -9,7 +9,7 @@ use Rattle.words.specs.Lists.{entries}
 use Rattle.graph.specs.Shows.{Shows}
 use Rattle.graph.specs.declared.Shape.{Shape}
 use Rattle.graph.specs.declared.Shape.the-variants as shapes
-use Rattle.verdict.specs.Limits.{transactions, work-bytes}
+use Rattle.verdict.specs.Limits.{transactions}
 use Rattle.verdict.specs.declared.answers.Answer.{Answer}
 use Rattle.verdict.specs.declared.answers.Answer.the-variants.{Order, Cycle}
 use Rattle.verdict.specs.declared.answers.Witnessed.{Witnessed}
@@ -25,6 +25,10 @@ one-edge s t a b = kept s t and s is a and t is b
 unfoldable pub no-edge : ℕ → ℕ → Bool
 no-edge a b = false
 
+-- a byte for each pair of transactions
+abbrev pub matrix-bytes : ℕ
+matrix-bytes = transactions * transactions
+
 -- where the byte for an edge from a to b stands: a row for each transaction, and in it a column for each
 abbrev pub byte-at : ℕ → ℕ → ℕ
 byte-at a b = (a - 1) * transactions + (b - 1)
@@ -35,7 +39,7 @@ with-edge m s t = if kept s t then set m (byte-at s t) 1 else m
 
 -- for all pairs of transactions at once: the byte for a and b is not 0 exactly where an edge leads from a to b
 pub record Drawn (edge : ℕ → ℕ → Bool) (m : List ℕ) : Type 0 where
-  pub size : length m ≡ work-bytes
+  pub size : length m ≡ matrix-bytes
   pub byte : (a b : ℕ) → (1 ≤ a) × (a ≤ transactions) → (1 ≤ b) × (b ≤ transactions) → fails (getD m (byte-at a b) 0 is 0) ≡ edge a b
 
 -- an order or a cycle of n members

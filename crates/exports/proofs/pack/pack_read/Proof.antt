@@ -1,6 +1,5 @@
 -- `pack_read` meets its contract: each case has its number.
 use borrow.Author.Needs.{needs}
-use Prim.Native.Nat.{ℕ}
 use Rattle.exports.specs.Packed.{read-numbers}
 use Rattle.exports.proofs.Values.{known-small, known-packed}
 use Rattle.exports.proofs.pack.pack_read.Statement.{statement}
