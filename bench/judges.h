@@ -5,7 +5,7 @@
 #include "../include/krupovesh.h"
 #include "workloads.h"
 
-enum { VERDICTS = 7 };
+enum { VERDICTS = 8 };
 extern const char *const verdict_names[VERDICTS];
 
 /* The two judges. */
@@ -19,6 +19,7 @@ struct buffers {
     uint16_t order[KRUPOVESH_HANDED];
     uint16_t steps[KRUPOVESH_STEPS];
     uint8_t out[KRUPOVESH_REPORT];
+    uint8_t written[KRUPOVESH_TEXT];
 };
 
 /* One call of one verdict. */

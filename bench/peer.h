@@ -1,4 +1,4 @@
-/* A plain C judge with the answers of krupovesh.h, to compare costs with. Written from document 01 alone. */
+/* A plain C judge with the answers of krupovesh.h, to compare costs with. Written from documents 01 and 02 alone. */
 #ifndef PEER_H
 #define PEER_H
 
@@ -22,6 +22,8 @@ uint64_t peer_next(const uint16_t *log, size_t log_length, const uint16_t *order
                    uint8_t *work, size_t work_length, uint16_t *witness, size_t witness_length);
 
 uint64_t peer_read(const uint8_t *text, size_t text_length, uint16_t *steps, size_t steps_length);
+
+uint64_t peer_write(const uint16_t *log, size_t log_length, uint8_t *out, size_t out_length);
 
 uint64_t peer_report(const uint8_t *text, size_t text_length, uint8_t *out, size_t out_length);
 

@@ -148,20 +148,49 @@ static void note_order(struct expected *e, const char *line)
     members(line + 5, e->orders[e->order_count++]);
 }
 
-int next_expected(struct words *reports, struct words *orders, struct expected *e)
+/* One line of what is written, or the refusal. */
+static void note_written(struct expected *e, const char *line)
 {
-    if (reports->is_over)
+    unsigned number, place;
+
+    if (sscanf(line, "refused=%u at=%u", &number, &place) == 2) {
+        e->write_answer = answer(KRUPOVESH_REFUSED, number, place);
+        return;
+    }
+    size_t left = sizeof e->written - e->written_length;
+    size_t length = (size_t)snprintf(e->written + e->written_length, left, "%s\n", line);
+    if (length >= left)
+        stop("is written as a text that is too long", e->name);
+    e->written_length += length;
+    e->write_answer = answer(KRUPOVESH_ACCEPTED, (unsigned)e->written_length, 0);
+}
+
+/* Notes the lines up to the next text, or the end. */
+static void note_all(struct words *w, struct expected *e, void note(struct expected *, const char *))
+{
+    for (step_on(w); !w->is_over && value_of(w->line, "file=") == NULL; step_on(w))
+        note(e, w->line);
+}
+
+/* Whether the file goes on with the text of this line. */
+static int is_at(const struct words *w, const char *line)
+{
+    return !w->is_over && strcmp(w->line, line) == 0;
+}
+
+int next_expected(struct said *s, struct expected *e)
+{
+    if (s->reports->is_over)
         return 0;
     memset(e, 0, sizeof *e);
-    const char *name = value_of(reports->line, "file=");
-    if (name == NULL || orders->is_over || strcmp(reports->line, orders->line) != 0)
-        stop("the reports and the orders are not of the same texts", reports->line);
+    const char *line = s->reports->line, *name = value_of(line, "file=");
+    if (name == NULL || !is_at(s->orders, line) || !is_at(s->written, line))
+        stop("the files are not of the same texts", line);
     snprintf(e->name, sizeof e->name, "%s", name);
     load_text(e);
     e->is_read = 1;
-    for (step_on(reports); !reports->is_over && value_of(reports->line, "file=") == NULL; step_on(reports))
-        note_line(e, reports->line);
-    for (step_on(orders); !orders->is_over && value_of(orders->line, "file=") == NULL; step_on(orders))
-        note_order(e, orders->line);
+    note_all(s->reports, e, note_line);
+    note_all(s->orders, e, note_order);
+    note_all(s->written, e, note_written);
     return 1;
 }

@@ -29,14 +29,23 @@ struct expected {
     uint64_t answers[5];
     uint16_t witness[5][128];
 
+    uint64_t write_answer; /* what the writer answers to the steps, and what it writes */
+    char written[KRUPOVESH_TEXT + 1];
+    size_t written_length;
+
     uint16_t orders[MOST_ORDERS][128];
     size_t order_count;
     int is_whole_list; /* whether none comes after the last of them */
 };
 
-/* The next text of the two files, which are what `report` and `orders` have said of the same texts. 0 at the end. */
+/* What `report`, `orders` and `write` have said of the same texts, each in its file. */
 struct words;
+struct said {
+    struct words *reports, *orders, *written;
+};
 struct words *open_words(const char *path);
-int next_expected(struct words *reports, struct words *orders, struct expected *e);
+
+/* The next text of the files. 0 at the end. */
+int next_expected(struct said *s, struct expected *e);
 
 #endif

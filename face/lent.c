@@ -8,12 +8,12 @@ enum { GUARD = 64, ROOM = GUARD + MOST_BYTES + GUARD };
 
 static const size_t right[BUFFERS] = {
     [ORDER] = KRUPOVESH_HANDED, [WORK] = KRUPOVESH_WORK, [WITNESS] = KRUPOVESH_WITNESS,
-    [STEPS] = KRUPOVESH_STEPS, [OUT] = KRUPOVESH_REPORT};
+    [STEPS] = KRUPOVESH_STEPS, [OUT] = KRUPOVESH_REPORT, [WRITTEN] = KRUPOVESH_TEXT};
 static const size_t entry_size[BUFFERS] = {
-    [LOG] = 2, [TEXT] = 1, [ORDER] = 2, [WORK] = 1, [WITNESS] = 2, [STEPS] = 2, [OUT] = 1};
+    [LOG] = 2, [TEXT] = 1, [ORDER] = 2, [WORK] = 1, [WITNESS] = 2, [STEPS] = 2, [OUT] = 1, [WRITTEN] = 1};
 static const char *const function_names[FUNCTIONS] = {
-    "clean", "snapshot", "conflict", "version", "exact", "next", "read", "report"};
-static const char *const buffer_names[BUFFERS] = {"log", "text", "order", "work", "witness", "steps", "out"};
+    "clean", "snapshot", "conflict", "version", "exact", "next", "write", "read", "report"};
+static const char *const buffer_names[BUFFERS] = {"log", "text", "order", "work", "witness", "steps", "out", "written"};
 
 /* The buffers of each function, one bit each. */
 static const unsigned taken[FUNCTIONS] = {
@@ -23,6 +23,7 @@ static const unsigned taken[FUNCTIONS] = {
     [VERSION] = 1 << LOG | 1 << WORK | 1 << WITNESS,
     [EXACT] = 1 << LOG | 1 << WORK | 1 << WITNESS,
     [NEXT] = 1 << LOG | 1 << ORDER | 1 << WORK | 1 << WITNESS,
+    [WRITE] = 1 << LOG | 1 << WRITTEN,
     [READ] = 1 << TEXT | 1 << STEPS,
     [REPORT] = 1 << TEXT | 1 << OUT};
 
@@ -83,10 +84,11 @@ void lend(enum buffer b, size_t entries, const void *contents)
     memcpy(due[b], room[b].bytes, GUARD + bytes + GUARD);
 }
 
-void lend_all(void)
+void lend_for(enum function f)
 {
     for (enum buffer b = ORDER; b < BUFFERS; b++)
-        lend(b, right[b], NULL);
+        if (takes(f, b))
+            lend(b, right[b], NULL);
 }
 
 void make_due(enum buffer b, const void *contents, size_t entries)
@@ -101,6 +103,11 @@ static uint8_t *bytes_of(enum buffer b)
     return room[b].bytes + GUARD;
 }
 
+const uint8_t *held(enum buffer b)
+{
+    return bytes_of(b);
+}
+
 static uint16_t *numbers_of(enum buffer b)
 {
     return room[b].numbers + GUARD / 2;
@@ -111,7 +118,7 @@ static uint64_t call(enum function f)
     const uint16_t *log = numbers_of(LOG), *order = numbers_of(ORDER);
     const uint8_t *text = bytes_of(TEXT);
     uint16_t *witness = numbers_of(WITNESS), *steps = numbers_of(STEPS);
-    uint8_t *work = bytes_of(WORK), *out = bytes_of(OUT);
+    uint8_t *work = bytes_of(WORK), *out = bytes_of(OUT), *written = bytes_of(WRITTEN);
 
     switch (f) {
     case CLEAN: return krupovesh_clean(log, length[LOG], work, length[WORK]);
@@ -121,13 +128,14 @@ static uint64_t call(enum function f)
     case EXACT: return krupovesh_exact(log, length[LOG], work, length[WORK], witness, length[WITNESS]);
     case NEXT:
         return krupovesh_next(log, length[LOG], order, length[ORDER], work, length[WORK], witness, length[WITNESS]);
+    case WRITE: return krupovesh_write(log, length[LOG], written, length[WRITTEN]);
     case READ: return krupovesh_read(text, length[TEXT], steps, length[STEPS]);
     default:
         return krupovesh_report(text, length[TEXT], out, length[OUT]);
     }
 }
 
-void try_call(enum function f, uint64_t due_answer, const char *about)
+uint64_t try_call(enum function f, uint64_t due_answer, const char *about)
 {
     uint64_t given = call(f);
     int agrees = given == due_answer;
@@ -142,4 +150,5 @@ void try_call(enum function f, uint64_t due_answer, const char *about)
     }
     calls++;
     agreeing += (unsigned long)agrees;
+    return given;
 }

@@ -1,5 +1,5 @@
 /* Tests the C face from outside: wrong lengths, logs and texts with what the second program says of them, dirty buffers everywhere.
- * Called with two files: what `second report` and `second orders` have said of the same texts.
+ * Called with three files: what `second report`, `second orders` and `second write` have said of the same texts.
  * The last line says how many calls agree; the exit status is 0 exactly when all do. */
 #include <stdio.h>
 #include <string.h>
@@ -20,6 +20,7 @@ static void lend_input(unsigned which)
 {
     static const uint16_t log[12] = {1, 1, 0, 0, 3, 1, 0, 0, 4, 1, 0, 0};
     static const char text[] = "steps=0\n";
+    static const char unfit[] = "steps=1\nop=begin tx=1 obj=0 from=0\n"; /* in form, and refused with 11 */
     switch (which) {
     case 0:
         lend(LOG, 12, log);
@@ -33,6 +34,10 @@ static void lend_input(unsigned which)
         lend(LOG, 7, NULL);
         lend(TEXT, 100, NULL);
         break;
+    case 3:
+        lend(LOG, 4, log);
+        lend(TEXT, sizeof unfit - 1, unfit);
+        break;
     default:
         lend(LOG, 4100, NULL);
         lend(TEXT, 33804, NULL);
@@ -40,28 +45,33 @@ static void lend_input(unsigned which)
     }
 }
 
+enum { INPUTS = 5, WRONG_LENGTHS = 5 };
+
+/* The last is right for another buffer: the writer's for the report's, and the report's for all others. */
 static size_t wrong_length(size_t right, unsigned which)
 {
-    const size_t wrong[4] = {0, right - 1, right + 1, 2 * right};
+    const size_t other = right == KRUPOVESH_REPORT ? KRUPOVESH_TEXT : KRUPOVESH_REPORT;
+    const size_t wrong[WRONG_LENGTHS] = {0, right - 1, right + 1, 2 * right, other};
     return wrong[which];
 }
 
 /* Number 12: each buffer alone, and all at once. */
 static void try_lengths(enum function f)
 {
-    for (unsigned input = 0; input < 4; input++) {
-        for (unsigned which = 0; which < 4; which++) {
+    for (unsigned input = 0; input < INPUTS; input++) {
+        for (unsigned which = 0; which < WRONG_LENGTHS; which++) {
             for (enum buffer b = ORDER; b < BUFFERS; b++) {
                 if (!takes(f, b))
                     continue;
-                lend_all();
+                lend_for(f);
                 lend_input(input);
                 lend(b, wrong_length(right_length(b), which), NULL);
                 try_refusal(f, 12, 0, "one wrong length");
             }
             lend_input(input);
             for (enum buffer b = ORDER; b < BUFFERS; b++)
-                lend(b, wrong_length(right_length(b), which), NULL);
+                if (takes(f, b))
+                    lend(b, wrong_length(right_length(b), which), NULL);
             try_refusal(f, 12, 0, "all lengths wrong");
         }
     }
@@ -75,7 +85,7 @@ static void try_runs(enum function f)
     static const uint16_t bad_kinds[] = {0, 6, 256, 65535};
     uint16_t log[12] = {1, 1, 0, 0, 4, 1, 0, 0, 0, 0, 64, 1};
 
-    lend_all();
+    lend_for(f);
     for (unsigned i = 0; i < sizeof odd / sizeof *odd; i++) {
         lend(LOG, odd[i], NULL);
         try_refusal(f, 1, 0, "no multiple of 4");
@@ -96,11 +106,12 @@ static void try_verdicts(void)
 {
     for (enum function f = CLEAN; f <= EXACT; f++) {
         uint64_t due = e.is_refused ? e.refusal : e.answers[f];
-        lend_all();
+        lend_for(f);
         lend(LOG, 4 * e.step_count, e.steps);
         if (KRUPOVESH_KIND(due) != KRUPOVESH_REFUSED) {
             make_due(WORK, NULL, 0);
-            make_due(WITNESS, e.witness[f], KRUPOVESH_WITNESS);
+            if (takes(f, WITNESS))
+                make_due(WITNESS, e.witness[f], KRUPOVESH_WITNESS);
         }
         try_call(f, due, e.name);
     }
@@ -113,7 +124,7 @@ static void try_listing(void)
         int is_last = i + 1 == e.order_count;
         if (is_last && !e.is_whole_list)
             return;
-        lend_all();
+        lend_for(NEXT);
         lend(LOG, 4 * e.step_count, e.steps);
         lend(ORDER, KRUPOVESH_HANDED, e.orders[i]);
         make_due(WORK, NULL, 0);
@@ -138,7 +149,7 @@ static int is_listed(const uint16_t *order)
 /* Something that is not on the list. */
 static void try_stranger(const uint16_t *order)
 {
-    lend_all();
+    lend_for(NEXT);
     lend(LOG, 4 * e.step_count, e.steps);
     lend(ORDER, KRUPOVESH_HANDED, order);
     if (e.is_refused)
@@ -186,7 +197,7 @@ static void try_swaps(void)
 
 static void try_read(void)
 {
-    lend_all();
+    lend_for(READ);
     lend(TEXT, e.text_length, e.text);
     if (e.is_read) {
         make_due(STEPS, e.steps, KRUPOVESH_STEPS);
@@ -196,9 +207,30 @@ static void try_read(void)
     }
 }
 
+/* What was written is read as the same steps. */
+static void try_reading_back(uint64_t written)
+{
+    lend(STEPS, KRUPOVESH_STEPS, NULL);
+    lend(TEXT, KRUPOVESH_FIRST(written), held(WRITTEN));
+    make_due(STEPS, e.steps, KRUPOVESH_STEPS);
+    try_call(READ, answer(KRUPOVESH_ACCEPTED, (unsigned)e.step_count, 0), e.name);
+}
+
+static void try_write(void)
+{
+    int is_refused = KRUPOVESH_KIND(e.write_answer) == KRUPOVESH_REFUSED;
+    lend_for(WRITE);
+    lend(LOG, 4 * e.step_count, e.steps);
+    if (!is_refused)
+        make_due(WRITTEN, e.written, e.written_length);
+    uint64_t given = try_call(WRITE, e.write_answer, e.name);
+    if (!is_refused)
+        try_reading_back(given);
+}
+
 static void try_report(void)
 {
-    lend_all();
+    lend_for(REPORT);
     lend(TEXT, e.text_length, e.text);
     make_due(OUT, e.report, e.report_length);
     try_call(REPORT, answer(KRUPOVESH_ACCEPTED, (unsigned)e.report_length, 0), e.name);
@@ -207,17 +239,17 @@ static void try_report(void)
 int main(int count, char **words)
 {
     unsigned long texts = 0;
-    if (count != 3) {
-        fprintf(stderr, "test REPORTS ORDERS\n");
+    if (count != 4) {
+        fprintf(stderr, "test REPORTS ORDERS WRITTEN\n");
         return 2;
     }
-    struct words *reports = open_words(words[1]), *orders = open_words(words[2]);
+    struct said said = {open_words(words[1]), open_words(words[2]), open_words(words[3])};
 
     for (enum function f = CLEAN; f < FUNCTIONS; f++)
         try_lengths(f);
-    for (enum function f = CLEAN; f <= NEXT; f++)
+    for (enum function f = CLEAN; f <= WRITE; f++)
         try_runs(f);
-    for (; next_expected(reports, orders, &e); texts++) {
+    for (; next_expected(&said, &e); texts++) {
         try_read();
         try_report();
         if (!e.is_read)
@@ -226,6 +258,7 @@ int main(int count, char **words)
         try_listing();
         try_strangers();
         try_swaps();
+        try_write();
     }
     printf("face: %lu of %lu calls agree, over %lu texts\n", agreeing, calls, texts);
     return agreeing == calls && texts != 0 ? 0 : 1;

@@ -1,4 +1,4 @@
-/* The C face of Krupovesh: the verdicts over a log's numbers, the text reader and the report.
+/* The C face of Krupovesh: the verdicts over a log's numbers, the text reader, the writer and the report.
  *
  * Each buffer is a pointer, which is never null, and a length in entries. Any length and any contents may be handed in.
  * No two buffers of a call may overlap.
@@ -19,7 +19,7 @@
  *                                                      should have found         or 0 for writer 0
  *     KRUPOVESH_WRITE_AT      step of the commit       the partner               0
  *     KRUPOVESH_ACCEPTED      steps read, or bytes     0                         0
- *                             of the report
+ *                             written
  *
  * Writer 0 is the store before the log began.
  *
@@ -41,6 +41,7 @@ extern "C" {
 #define KRUPOVESH_HANDED 128
 #define KRUPOVESH_STEPS 4096
 #define KRUPOVESH_REPORT 2048
+#define KRUPOVESH_TEXT 33803
 
 /* The kinds of answer. */
 #define KRUPOVESH_REFUSED 0
@@ -84,6 +85,10 @@ uint64_t krupovesh_next(const uint16_t *log, size_t log_length, const uint16_t *
 
 /* Reads a text's steps into the step buffer, zeros behind them. Refused, or accepted with the number of steps. */
 uint64_t krupovesh_read(const uint8_t *text, size_t text_length, uint16_t *steps, size_t steps_length);
+
+/* Writes the text of a log, zeros behind it: the one text that is read as the same steps. Refused, or accepted with the number of
+ * bytes. */
+uint64_t krupovesh_write(const uint16_t *log, size_t log_length, uint8_t *out, size_t out_length);
 
 /* Writes the report of a text, zeros behind it. Refused, always with number 12, or accepted with the number of bytes. */
 uint64_t krupovesh_report(const uint8_t *text, size_t text_length, uint8_t *out, size_t out_length);

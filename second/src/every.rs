@@ -5,7 +5,7 @@ use std::io::{self, Write};
 
 use crate::log::check;
 use crate::report::report;
-use crate::text::WORDS;
+use crate::write::text_of;
 
 /// How large the logs may be.
 pub struct Bounds {
@@ -18,7 +18,7 @@ pub struct Bounds {
 /// then the bytes of both. Answers how many logs there are.
 pub fn write_all(bounds: &Bounds, out: &mut dyn Write) -> io::Result<u64> {
     let mut count = 0;
-    grow(bounds, &mut Vec::new(), &mut |run| {
+    each(bounds, &mut |run| {
         count += 1;
         let text = text_of(run);
         let report = report(text.as_bytes());
@@ -30,7 +30,7 @@ pub fn write_all(bounds: &Bounds, out: &mut dyn Write) -> io::Result<u64> {
 /// How many there are.
 pub fn count_all(bounds: &Bounds) -> u64 {
     let mut count = 0;
-    grow(bounds, &mut Vec::new(), &mut |_| {
+    each(bounds, &mut |_| {
         count += 1;
         Ok(())
     })
@@ -38,13 +38,16 @@ pub fn count_all(bounds: &Bounds) -> u64 {
     count
 }
 
+type Deal<'a> = dyn FnMut(&[u16]) -> io::Result<()> + 'a;
+
+/// Deals with the run of each log.
+pub fn each(bounds: &Bounds, deal: &mut Deal) -> io::Result<()> {
+    grow(bounds, &mut Vec::new(), deal)
+}
+
 /// Deals with the run where it is a log, and then with all that go on from it.
 /// A run that is turned away at a step goes on to nothing.
-fn grow(
-    bounds: &Bounds,
-    run: &mut Vec<u16>,
-    deal: &mut dyn FnMut(&[u16]) -> io::Result<()>,
-) -> io::Result<()> {
+fn grow(bounds: &Bounds, run: &mut Vec<u16>, deal: &mut Deal) -> io::Result<()> {
     match check(run) {
         Ok(_) => deal(run)?,
         Err(refusal) if refusal.number != 11 => return Ok(()),
@@ -65,16 +68,4 @@ fn grow(
         }
     }
     Ok(())
-}
-
-fn text_of(run: &[u16]) -> String {
-    let mut text = format!("steps={}\n", run.len() / 4);
-    for step in run.chunks(4) {
-        let word = WORDS[step[0] as usize - 1];
-        text += &format!(
-            "op={word} tx={} obj={} from={}\n",
-            step[1], step[2], step[3]
-        );
-    }
-    text
 }

@@ -5,6 +5,7 @@ use std::collections::BTreeMap;
 
 use crate::make::{Sort, SORTS};
 use crate::report::report;
+use crate::write::LONGEST;
 
 /// The lines of the histogram, and the outcomes that were never reached.
 pub fn histogram(seed: u64, count: usize) -> (Vec<String>, Vec<String>) {
@@ -43,7 +44,7 @@ fn outcomes(sort: Sort, text: &[u8], report: &str) -> Vec<String> {
     match sort {
         Sort::Small => verdicts(report),
         Sort::Damaged | Sort::Texts => vec!["accepted".to_string()],
-        Sort::Limits => [verdicts(report), extremes(report)].concat(),
+        Sort::Limits => [verdicts(report), extremes(text, report)].concat(),
     }
 }
 
@@ -81,9 +82,12 @@ const PAIRS: [&str; 8] = [
     "clean=unfinal and snapshot=write",
 ];
 
-/// The limits that a report shows.
-fn extremes(report: &str) -> Vec<String> {
+/// The limits that a text and its report show.
+fn extremes(text: &[u8], report: &str) -> Vec<String> {
     let mut met = Vec::new();
+    if text.len() == LONGEST {
+        met.push("longest text".to_string());
+    }
     for line in report.lines() {
         if line == "steps=1024" || line == "committed=128" || line == "committed=8" {
             met.push(line.to_string());
@@ -183,7 +187,8 @@ const TEXTS: [&str; 9] = [
     "refused=16 behind",
 ];
 
-const LIMITS: [&str; 27] = [
+const LIMITS: [&str; 28] = [
+    "longest text",
     "steps=1024",
     "committed=128",
     "committed=8",

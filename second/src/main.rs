@@ -1,4 +1,4 @@
-//! The commands: report, orders, graphs, make, every, histogram.
+//! The commands: report, orders, write, keep, graphs, make, every, histogram.
 
 mod every;
 mod graph;
@@ -14,6 +14,7 @@ mod rng;
 mod tests;
 mod text;
 mod verdicts;
+mod write;
 
 use std::ffi::OsString;
 use std::io::{self, BufWriter, ErrorKind, Read, Write};
@@ -22,6 +23,8 @@ use std::process::ExitCode;
 
 const USAGE: &str = "second report [FILE ..]
 second orders [--most N] [FILE ..]
+second write [FILE ..]
+second keep T,T,.. [FILE ..]
 second graphs
 second make small|damaged|texts|limits SEED COUNT DIR
 second every [--count] STEPS TRANSACTIONS OBJECTS
@@ -46,14 +49,14 @@ fn main() -> ExitCode {
 fn run(args: &[OsString], out: &mut dyn Write) -> io::Result<bool> {
     let words: Vec<&str> = args.iter().map(|arg| arg.to_str().unwrap_or("")).collect();
     match words[..] {
-        ["report", ..] => each_text(&args[1..], out, &mut |text, out| {
-            out.write_all(report::report(text).as_bytes())
-        }),
+        ["report", ..] => answer_each(&args[1..], out, &report::report),
         ["orders", "--most", most, ..] => match most.parse() {
             Ok(most) => orders(&args[3..], Some(most), out),
             Err(_) => usage(),
         },
         ["orders", ..] => orders(&args[1..], None, out),
+        ["write", ..] => answer_each(&args[1..], out, &write::write),
+        ["keep", list, ..] => keep(list, &args[2..], out),
         ["graphs"] => out.write_all(graphs::lines().as_bytes()).map(|_| true),
         ["make", kind, seed, count, _] => {
             match (make::Sort::named(kind), seed.parse(), count.parse()) {
@@ -118,6 +121,26 @@ fn each_text(files: &[OsString], out: &mut dyn Write, deal: &mut Deal) -> io::Re
         }
     }
     Ok(all_read)
+}
+
+fn answer_each(
+    files: &[OsString],
+    out: &mut dyn Write,
+    answer: &dyn Fn(&[u8]) -> String,
+) -> io::Result<bool> {
+    each_text(files, out, &mut |text, out| {
+        out.write_all(answer(text).as_bytes())
+    })
+}
+
+fn keep(list: &str, files: &[OsString], out: &mut dyn Write) -> io::Result<bool> {
+    match write::transactions(list) {
+        Some(kept) => answer_each(files, out, &|text| write::keep(&kept, text)),
+        None => {
+            eprintln!("second: keep takes numbers 1 to 128 with commas between");
+            Ok(false)
+        }
+    }
 }
 
 fn orders(files: &[OsString], most: Option<usize>, out: &mut dyn Write) -> io::Result<bool> {

@@ -20,7 +20,8 @@ pub fn report(text: &[u8]) -> String {
     }
 }
 
-fn refused(refusal: Refusal) -> String {
+/// The line of a refusal.
+pub fn refused(refusal: Refusal) -> String {
     format!("refused={} at={}\n", refusal.number, refusal.place)
 }
 

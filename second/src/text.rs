@@ -92,7 +92,7 @@ fn kind(word: &[u8]) -> Option<u16> {
 }
 
 /// Decimal 0..65535 without leading zeros.
-fn number(digits: &[u8]) -> Option<u16> {
+pub fn number(digits: &[u8]) -> Option<u16> {
     if digits.is_empty() || digits.len() > 5 {
         return None;
     }

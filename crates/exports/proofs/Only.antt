@@ -6,8 +6,10 @@ use Rattle.verdict.specs.Call.{CleanCall, SnapshotCall, ConflictCall, VersionCa
 use Rattle.verdict.proofs.Only.{clean-call-one, snapshot-call-one, conflict-call-one, version-call-one, exact-call-one, next-call-one}
 use Rattle.text.specs.ReadCall.{ReadCall}
 use Rattle.text.specs.ReportCall.{ReportCall}
+use Rattle.text.specs.WriteCall.{WriteCall}
 use Rattle.text.proofs.Only.{read-call-one}
 use Rattle.text.proofs.ReportOnly.{report-call-one}
+use Rattle.text.proofs.WriteCalls.{write-call-one}
 use Rattle.exports.specs.Packed.{Numbers, clean-numbers, snapshot-numbers, witness-numbers, text-numbers, packed, Packs, packs}
 
 -- two calls that allow one answer, and leave one thing, have one number
@@ -45,3 +47,7 @@ module _ {text buffer : List ℕ} {r s : ℕ} {v w : List ℕ} where
 
   pub packed-report-one : Packs (λ a. ReportCall text buffer a v) text-numbers r → Packs (λ a. ReportCall text buffer a w) text-numbers s → (r ≡ s) × (v ≡ w)
   packed-report-one = packs-one (λ a b c d. report-call-one c d)
+
+module _ (log : List ℕ) {out : List ℕ} {r s : ℕ} {v w : List ℕ} where
+  pub packed-write-one : Packs (λ a. WriteCall log out a v) text-numbers r → Packs (λ a. WriteCall log out a w) text-numbers s → (r ≡ s) × (v ≡ w)
+  packed-write-one = packs-one (λ a b c d. write-call-one log c d)

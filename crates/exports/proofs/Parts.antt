@@ -25,10 +25,11 @@ use Rattle.verdict.proofs.WellFormed.{else-try→}
 use Rattle.verdict.proofs.Bounds.{SnapshotUpto, read-upto, committed-upto, snapshot-few}
 use Rattle.text.specs.ReadCall.{ReadCall}
 use Rattle.text.specs.ReportCall.{ReportCall}
+use Rattle.text.specs.WriteCall.{WriteCall}
 use Rattle.text.specs.declared.TextAnswer.{TextAnswer}
 use Rattle.text.specs.declared.TextAnswer.the-variants as text-answer
 use Rattle.exports.specs.Packed.{Numbers, fault-numbers, clean-numbers, read-numbers, snapshot-numbers, witness-numbers, text-numbers, packed, Packs, packs}
-use Rattle.exports.proofs.Values.{Short, clean-short, snapshot-short, conflict-short, version-short, exact-short, next-short, read-short, report-short}
+use Rattle.exports.proofs.Values.{Short, clean-short, snapshot-short, conflict-short, version-short, exact-short, next-short, read-short, report-short, write-short}
 
 -- the header's macros
 unfoldable pub kind-of : ℕ → ℕ
@@ -85,6 +86,10 @@ module _ {text buffer buffer′ : List ℕ} {r : ℕ} where
 
   pub report-parts : Packs (λ a. ReportCall text buffer a buffer′) text-numbers r → Parts (λ a. ReportCall text buffer a buffer′) text-numbers r
   report-parts = parts-told (λ a c. report-short buffer c)
+
+module _ (log : List ℕ) {out out′ : List ℕ} {r : ℕ} where
+  pub write-parts : Packs (λ a. WriteCall log out a out′) text-numbers r → Parts (λ a. WriteCall log out a out′) text-numbers r
+  write-parts = parts-told (λ a c. write-short log out c)
 
 -- THE NUMBERS TELL THE ANSWER
 -- what has a way back is told apart

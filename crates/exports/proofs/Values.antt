@@ -3,6 +3,7 @@ use mathlib.Core.Path.{_≡_, refl, sym, ap, subst, _∙_}
 use mathlib.Core.List.{List}
 use Prim.Native.Nat.{ℕ, suc, _≤_, _<_}
 use native.Mathlib.Omega.{arith}
+use lib.ListN.{length}
 use Rattle.verdict.specs.Limits.{transactions, most-steps}
 use Rattle.verdict.specs.Refusal.{log-refusal}
 use Rattle.verdict.specs.Snapshot.{snapshot-verdict}
@@ -27,8 +28,12 @@ use Rattle.verdict.proofs.WellFormed.{else-try→}
 use Rattle.verdict.proofs.Bounds.{Within, within-else, log-within, work-within, witness-within, order-within, search-within, list-within, FaultUpto, aborted-upto, unfinal-upto, WriterUpto, store-fine, committed-upto, SnapshotUpto, snapshot-fine, read-upto, write-upto, OutcomeUpto, order-upto, cycle-upto, none-fine, unclean-upto, fault-few, snapshot-few, conflict-few, version-few, exact-few, next-few}
 use Rattle.text.specs.ReadCall.{said-steps, ReadCall}
 use Rattle.text.specs.ReportCall.{said-length, ReportCall}
+use Rattle.text.specs.Text.{text-of}
+use Rattle.text.specs.WriteCall.{WriteCall}
 use Rattle.text.specs.declared.TextAnswer.{TextAnswer}
 use Rattle.text.proofs.Room.{read-within, report-within, says-few, report-fits}
+use Rattle.text.proofs.Saying.{longest-text}
+use Rattle.text.proofs.WriteCalls.{write-passed, write-within}
 use Rattle.exports.specs.Packed.{Numbers, _with_and_, _with_and_then_, fault-numbers, clean-numbers, read-numbers, snapshot-numbers, witness-numbers, text-numbers, packed}
 use Rattle.exports.specs.Inner.Small.{Small}
 
@@ -52,14 +57,14 @@ pub known-packed : {A : Type 0} (numbers : A → Numbers) {a b : A} {r : ℕ} �
 known-packed {A} numbers e h = h ∙ sym (ap (λ (z : A). packed (numbers z)) e)
 
 -- numbers that are written out
-short-three : {k a b c : ℕ} → k < 11 → a < 10000 → b < 10000 → c < 10000 → Short (k with a and b then c)
+short-three : {k a b c : ℕ} → k < 11 → a < 65536 → b < 65536 → c < 65536 → Short (k with a and b then c)
 short-three h i j l = record { kind-short = omega arith; first-short = omega arith; second-short = omega arith; third-short = omega arith }
 
-short : {k a b : ℕ} → k < 11 → a < 10000 → b < 10000 → Short (k with a and b)
+short : {k a b : ℕ} → k < 11 → a < 65536 → b < 65536 → Short (k with a and b)
 short h i j = short-three h i j (omega arith)
 
 refused-short : {n p : ℕ} → (n < 10000) × (p < 10000) → Short (0 with n and p)
-refused-short h = short (omega arith) (h .0) (h .1)
+refused-short h = short (omega arith) (omega (arith, h .0)) (omega (arith, h .1))
 
 -- what a call answers is short, if what it may say is
 call-short : {A R : Type 0} {applies : Checked → Type 0} {away : ℕ → ℕ → R} {verdict : A → Type 0} {says : A → R} {leaves : A → List (List ℕ)} {lent : List (List ℕ)}
@@ -144,3 +149,9 @@ pub report-short : (out : List ℕ) {text : List ℕ} {r : TextAnswer} {out′ :
 unfolding text-numbers said-length
 report-short out =
     call-short text-numbers (λ n p e. refused-short (report-within out n p (sym e))) (λ w e s. short (omega arith) (omega (arith, report-fits s)) (omega arith))
+
+pub write-short : (log out : List ℕ) {r : TextAnswer} {out′ : List ℕ} → WriteCall log out r out′ → Short (text-numbers r)
+unfolding text-numbers said-length
+write-short log out =
+    call-short text-numbers (λ n p e. refused-short (write-within log out n p (sym e)))
+    (λ w e (v : w ≡ text-of log). short (omega arith) (omega (arith, ap length v, longest-text log (write-passed log out (sym e)))) (omega arith))

@@ -4,6 +4,7 @@ mod pack;
 ghost use Rattle.verdict.specs.Call.{CleanCall, SnapshotCall, ConflictCall, VersionCall, ExactCall, NextCall};
 ghost use Rattle.text.specs.ReadCall.{ReadCall};
 ghost use Rattle.text.specs.ReportCall.{ReportCall};
+ghost use Rattle.text.specs.WriteCall.{WriteCall};
 ghost use Rattle.exports.specs.Packed.{clean-numbers, snapshot-numbers, witness-numbers, text-numbers, Packs};
 use crate::pack::pack_clean;
 use crate::pack::pack_snapshot;
@@ -75,6 +76,15 @@ pub extern "C" fn krupovesh_read(text: &[u8], steps: &mut [u16]) -> u64
     ensures { λ r. ⌜ Packs (λ a. ReadCall (now (text .entry)) (now (steps .entry)) a (now (steps .exit))) text-numbers r ⌝ }
 {
     let answer = text::read(text, steps);
+    pack_text(answer)
+}
+
+// The text of a log, put first in its buffer.
+#[no_mangle]
+pub extern "C" fn krupovesh_write(log: &[u16], out: &mut [u8]) -> u64
+    ensures { λ r. ⌜ Packs (λ a. WriteCall (now (log .entry)) (now (out .entry)) a (now (out .exit))) text-numbers r ⌝ }
+{
+    let answer = text::write(log, out);
     pack_text(answer)
 }
 

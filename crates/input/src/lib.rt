@@ -1,7 +1,6 @@
 // The texts that a program is given: standard input, or the files that its arguments name.
 ghost use Rattle.io.specs.Counts.{Counts};
 use libc::STDIN_FILENO;
-use libc::STDOUT_FILENO;
 
 // What reading gives: how many bytes stand at the start of the buffer, and whether it failed.
 pub struct Got {
@@ -49,22 +48,7 @@ pub fn read_input(text: &mut [u8]) -> Got
     got
 }
 
-// Reads a file that is open for reading, and prints the line `file=NAME`.
-fn read_file(fd: i32, name: &[u8], text: &mut [u8]) -> Got
-    ensures { λ r. ⌜ Counts (r .bytes) (now (text .exit)) ⌝ }
-{
-    let got = read_text(fd, text);
-    if got.failed {
-        os::fail(name);
-        return got;
-    }
-    io::write_all(STDOUT_FILENO, b"file=");
-    io::write_all(STDOUT_FILENO, name);
-    io::write_all(STDOUT_FILENO, b"\n");
-    got
-}
-
-// Reads the file that an argument names, and prints the line `file=NAME`. Where that fails, standard error has a line.
+// Reads the file that an argument names. Where that fails, standard error has a line.
 pub fn read_named(i: usize, text: &mut [u8]) -> Got
     ensures { λ r. ⌜ Counts (r .bytes) (now (text .exit)) ⌝ }
 {
@@ -85,7 +69,17 @@ pub fn read_named(i: usize, text: &mut [u8]) -> Got
             failed: true,
         };
     }
-    let got = read_file(fd, &name[..n], text);
+    let got = read_text(fd, text);
+    if got.failed {
+        os::fail(&name[..n]);
+    }
     libc::close(fd);
     got
+}
+
+// Prints the line `file=NAME` for the file that an argument names.
+pub fn print_named(i: usize) {
+    let mut name = io::buffer();
+    let n = os::arg(i, &mut name);
+    output::print_file(&name[..n]);
 }

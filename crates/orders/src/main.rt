@@ -1,8 +1,11 @@
 // The program: prints every order that explains the log on standard input, or in each file named, one a line, and last `none`.
 // A log that is turned away gets the line of its refusal instead.
+use input::print_named;
 use input::read_input;
 use input::read_named;
 use libc::STDOUT_FILENO;
+use output::print_numbers;
+use output::print_refused;
 use text::Text;
 use text::TextAnswer;
 use text::read;
@@ -24,42 +27,15 @@ struct Brought {
     more: bool,
 }
 
-// x, in a wider type.
-fn wide(x: u16) -> u64 {
-    x as u64
-}
-
-// Prints the line of a refusal.
-fn print_refused(number: u16, place: usize) {
-    io::write_all(STDOUT_FILENO, b"refused=");
-    io::print_decimal(STDOUT_FILENO, wide(number));
-    io::write_all(STDOUT_FILENO, b" at=");
-    io::print_decimal(STDOUT_FILENO, place as u64);
-    io::write_all(STDOUT_FILENO, b"\n");
-}
-
-// Prints the line of an order.
-fn print_order(order: &[u16]) {
-    io::write_all(STDOUT_FILENO, b"order");
-    let mut i = 0;
-    while i < order.len() {
-        io::write_all(STDOUT_FILENO, b" ");
-        io::print_decimal(STDOUT_FILENO, wide(order[i]));
-        i += 1;
-    }
-    io::write_all(STDOUT_FILENO, b"\n");
-}
-
 // Brings the order after the one given, and prints it.
-fn bring(log: &[u16], given: [u16; Transaction::COUNT]) -> Brought
+fn bring(log: &[u16], given: [u16; Transaction::COUNT], work: &mut [u8]) -> Brought
     ensures { λ r. ⌜ (r .more ≡ true → to-come (now (log .entry)) (up-to-zero (r .order)) < to-come (now (log .entry)) (up-to-zero given)) ⌝ }
 {
-    let mut work = [0u8; Log::WORK];
     let mut order = [0u16; Transaction::COUNT];
-    let answer = next(log, &given, &mut work, &mut order);
+    let answer = next(log, &given, work, &mut order);
     if let WitnessAnswer::Judged(judged) = answer {
         if let Answer::Order(n) = judged {
-            print_order(&order[..n]);
+            print_numbers(b"order", &order[..n]);
             return Brought { order, more: true };
         }
     }
@@ -67,11 +43,11 @@ fn bring(log: &[u16], given: [u16; Transaction::COUNT]) -> Brought
 }
 
 // Prints all orders after the first.
-fn print_later(log: &[u16], first: [u16; Transaction::COUNT]) {
+fn print_later(log: &[u16], first: [u16; Transaction::COUNT], work: &mut [u8]) {
     let mut order = first;
     let mut more = true;
     while more {
-        let brought = bring(log, order);
+        let brought = bring(log, order, work);
         let next = brought.order;
         order = next;
         more = brought.more;
@@ -87,8 +63,8 @@ fn print_listing(log: &[u16]) {
         WitnessAnswer::Refused(number, place) => print_refused(number, place),
         WitnessAnswer::Judged(judged) => {
             if let Answer::Order(n) = judged {
-                print_order(&witness[..n]);
-                print_later(log, witness);
+                print_numbers(b"order", &witness[..n]);
+                print_later(log, witness, &mut work);
             }
             io::write_all(STDOUT_FILENO, b"none\n");
         }
@@ -119,11 +95,12 @@ fn print_input() {
 }
 
 // Prints the list of the file that an argument names.
-fn print_named(i: usize) {
+fn print_file(i: usize) {
     let mut text = [0u8; Text::LIMIT + 1];
     let got = read_named(i, &mut text);
     let n = got.bytes;
     if !got.failed {
+        print_named(i);
         print_orders(&text[..n]);
     }
 }
@@ -136,7 +113,7 @@ fn main() {
     }
     let mut i = 1;
     while i < count {
-        print_named(i);
+        print_file(i);
         i += 1;
     }
 }

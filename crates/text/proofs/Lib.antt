@@ -7,10 +7,14 @@ pub mod Forms
 pub mod Runs
 pub mod Compare
 pub mod Puts
+pub mod Digits
 pub mod Clears
 pub mod Only
 pub mod Calls
 pub mod WasRead
+pub mod Saying
+pub mod WriteCalls
+pub mod RoundTrip
 pub mod Tells
 pub mod Room
 pub mod ReportOnly

@@ -206,9 +206,11 @@ module _ (n : ℕ) (h : n < 10) where
   pub one-length : length (decimal n) ≡ 1
   one-length = ap length (decimal-digit n h)
 
-  pub put-digit : (l : List ℕ) (at : ℕ) → at < length l → (at + 1 ≡ at + length (decimal n)) × (set l at (48 + n) ≡ put-at at (decimal n) l)
-  unfolding digit
-  put-digit l at k = (omega (arith, one-length), put-one l at (48 + n) k ∙ ap (λ (w : List ℕ). put-at at w l) (sym (decimal-digit n h)))
+  pub digit-fits : (l : List ℕ) (at : ℕ) → Fits (decimal n) at l → Fits (digit n ∷ []) at l
+  digit-fits l at = known-fits (λ (w : List ℕ). w) (decimal-digit n h) l at
+
+  pub digit-put : (l : List ℕ) (at : ℕ) {next : ℕ} {l′ : List ℕ} → Puts (digit n ∷ []) at l next l′ → Puts (decimal n) at l next l′
+  digit-put l at = known-puts (λ (w : List ℕ). w) (decimal-digit n h) l at
 
 -- a number of more digits: all but the last, and the last
 module _ (n : ℕ) (h : 10 ≤ n) where
@@ -220,8 +222,16 @@ module _ (n : ℕ) (h : 10 ≤ n) where
   pub last-length : length (decimal n) ≡ length (decimal (n / 10)) + 1
   last-length = ap length last-digit ∙ length-append (decimal (n / 10)) (digit (n % 10) ∷ [])
 
-  pub put-last : (l l′ : List ℕ) (at last : ℕ) → at + length (decimal (n / 10)) < length l → last ≡ at + length (decimal (n / 10)) → l′ ≡ put-at at (decimal (n / 10)) l
-      → (last + 1 ≡ at + length (decimal n)) × (set l′ last (48 + n % 10) ≡ put-at at (decimal n) l)
-  unfolding digit
-  put-last l l′ at last k e f =
-      (omega (arith, last-length), rw (e, f) (put-more l (decimal (n / 10)) at (48 + n % 10) k ∙ ap (λ (w : List ℕ). put-at at w l) (sym last-digit)))
+  module _ (l : List ℕ) (at : ℕ) (fits : Fits (decimal n) at l) where
+    both-fit : Fits (decimal (n / 10) ++ digit (n % 10) ∷ []) at l
+    both-fit = known-fits (λ (w : List ℕ). w) last-digit l at fits
+
+    pub first-digits-fit : Fits (decimal (n / 10)) at l
+    first-digits-fit = first-fits (decimal (n / 10)) (digit (n % 10) ∷ []) l at both-fit
+
+    module _ {next : ℕ} {l′ : List ℕ} (put : Puts (decimal (n / 10)) at l next l′) where
+      pub last-fits : Fits (digit (n % 10) ∷ []) next l′
+      last-fits = then-fits (decimal (n / 10)) (digit (n % 10) ∷ []) l at both-fit put
+
+      pub last-put : {end : ℕ} {l″ : List ℕ} → Puts (digit (n % 10) ∷ []) next l′ end l″ → Puts (decimal n) at l end l″
+      last-put p = known-puts (λ (w : List ℕ). w) last-digit l at (both-put (decimal (n / 10)) (digit (n % 10) ∷ []) l at both-fit put p)

@@ -1,28 +1,19 @@
 -- What the parts of `report` answer and leave, put together to its statement.
 use mathlib.Core.Path.{_≡_, refl, sym, ap, _∙_}
 use mathlib.Core.List.{List, [], _∷_, _++_}
-use Prim.Native.Nat.{ℕ, _-_, _≤_, _+_}
+use Prim.Native.Nat.{ℕ, _-_, _≤_}
 use native.Mathlib.Omega.{arith}
-use lib.ListN.{length, take, drop}
-use lib.Seq.{take-at}
-use Rattle.words.specs.Lists.{zeros, entries}
+use lib.ListN.{length, take}
+use Rattle.words.specs.Lists.{zeros}
 use Rattle.words.proofs.Truth.{→is, →isnt, →fails, →not-fails}
 use Rattle.verdict.specs.Call.{turned-away, answered}
 use Rattle.verdict.proofs.Refused.{when-yes, when-no}
-use Rattle.text.specs.Inner.Put.{put-at, Puts}
+use Rattle.text.specs.Inner.Put.{Puts}
 use Rattle.text.specs.Report.{ReportOf}
 use Rattle.text.specs.ReportCall.{report-bytes, report-refusal, said-length, leaves-report, ReportCall}
 use Rattle.text.specs.declared.TextAnswer.the-variants as text-answer
+use Rattle.text.proofs.Clears.{cleared-behind}
 use Rattle.text.proofs.Room.{report-fits}
-
--- a buffer that is cleared behind what was put first in it
-cleared-behind : (n next : ℕ) (w l run run′ : List ℕ) → length run ≡ n → Puts w 0 l next run → run′ ≡ take next run ++ zeros (length run - next) → run′ ≡ entries n w
-unfolding put-at entries
-cleared-behind n next w l run run′ e p f =
-    let g : next ≡ length w = omega (arith, p .0) in
-    let h : take next run ≡ w = ap (take next) (p .1) ∙ take-at w (drop (0 + length w) l) next (sym g) in
-    let i : length run - next ≡ n - length w = omega arith in
-    f ∙ ap (λ (u : List ℕ). u ++ zeros (length run - next)) h ∙ ap (λ (m : ℕ). w ++ zeros m) i
 
 module _ (text out : List ℕ) where
   pub wrong-size : (length out ≡ report-bytes → ⊥) → ReportCall text out (text-answer.Refused 12 0) out

@@ -1,14 +1,11 @@
 -- How long the lines of a report are: every report has room in its buffer. And how large the values of the calls are.
-use mathlib.Core.Path.{_≡_, refl, ap, _∙_}
-use mathlib.Core.Bool.{true, false}
+use mathlib.Core.Path.{_≡_, refl}
+use mathlib.Core.Bool.{true}
 use mathlib.Core.List.{List, [], _∷_, _++_}
-use mathlib.Core.Logic.{_⊎_, inl, inr}
-use Prim.Native.Nat.{ℕ, suc, _+_, _*_, _/_, _≤_, _<_}
+use Prim.Native.Nat.{ℕ, suc, _+_, _*_, _≤_, _<_}
 use native.Mathlib.Omega.{arith}
 use lib.ListN.{length, length-append}
-use Rattle.words.specs.Tests.{_below_}
 use Rattle.words.specs.Lists.{member}
-use Rattle.words.proofs.Truth.{decide, below→, not-below→}
 use Rattle.words.proofs.Places.{member-head, member-tail}
 use Rattle.verdict.specs.Limits.{transactions, most-steps}
 use Rattle.verdict.specs.Log.{steps, committed-count}
@@ -25,7 +22,8 @@ use Rattle.verdict.specs.declared.answers.Writer.{Writer}
 use Rattle.verdict.specs.declared.answers.Writer.the-variants.{Store, Committed}
 use Rattle.verdict.specs.declared.answers.Snapshot.{Snapshot}
 use Rattle.verdict.specs.declared.answers.Snapshot.the-variants as snapshot-is
-use Rattle.verdict.proofs.Bounds.{Within, within-when, log-within, FaultUpto, aborted-upto, unfinal-upto, WriterUpto, store-fine, committed-upto, SnapshotUpto, snapshot-fine, read-upto, write-upto, MembersUpto, OutcomeUpto, order-upto, cycle-upto, none-fine, unclean-upto, few-steps, few-committed, fault-few, snapshot-few, conflict-few, version-few, exact-few}
+use Rattle.verdict.proofs.Bounds.{Within, within-when, log-within, FaultUpto, aborted-upto, unfinal-upto, WriterUpto, store-fine, committed-upto, SnapshotUpto, snapshot-fine, read-upto, write-upto, MembersUpto, OutcomeUpto, order-upto, cycle-upto, none-fine, unclean-upto, few-committed, fault-few, snapshot-few, conflict-few, version-few, exact-few}
+use Rattle.verdict.proofs.WellFormed.{steps-within}
 use Rattle.text.specs.Bytes.{bytes, blank, line-end}
 use Rattle.text.specs.Decimal.{decimal}
 use Rattle.text.specs.Line.{item, header}
@@ -35,31 +33,10 @@ use Rattle.text.specs.ReportLine.{refused-line, committed-line, clean-li
 use Rattle.text.specs.Report.{ConflictLine, conflict-line, VersionLine, version-line, ExactLine, exact-over, exact-line, first-lines, LogReport, log-refused, judged, ReportOf, text-too-long, text-refused, text-read}
 use Rattle.text.specs.Inner.Put.{most-long, most-short}
 use Rattle.text.specs.ReportCall.{report-bytes, report-refusal}
-use Rattle.text.proofs.Puts.{one-length, last-length}
+use Rattle.text.proofs.Digits.{three-digits, four-digits, item-length}
 use Rattle.text.proofs.Only.{steps-count}
 
--- DIGITS
-one-digit : (n : ℕ) → n < 10 → length (decimal n) ≤ 1
-one-digit n h = omega (arith, one-length n h)
-
-more-digits : (b k : ℕ) → 1 ≤ k → ((m : ℕ) → m < b → length (decimal m) ≤ k) → (n : ℕ) → n < 10 * b → length (decimal n) ≤ suc k
-more-digits b k p f n h = go (decide (n below 10))
-  where
-    go : ((n below 10) ≡ true) ⊎ ((n below 10) ≡ false) → length (decimal n) ≤ suc k
-    go (inl c) = omega (arith, one-digit n (below→ c))
-    go (inr c) = omega (arith, last-length n (not-below→ c), f (n / 10) (omega arith))
-
-three-digits : (n : ℕ) → n < 1000 → length (decimal n) ≤ 3
-three-digits = more-digits 100 2 (omega arith) (more-digits 10 1 (omega arith) one-digit)
-
-pub four-digits : (n : ℕ) → n < 10000 → length (decimal n) ≤ 4
-four-digits = more-digits 1000 3 (omega arith) three-digits
-
 -- KEYS WITH THEIR VALUES
-item-length : (key v : List ℕ) (behind : ℕ) → length (item key v behind) ≡ length key + length v + 1
-unfolding item
-item-length key v behind = length-append (key ++ v) (behind ∷ []) ∙ ap (λ (m : ℕ). m + 1) (length-append key v)
-
 number-item : (key : List ℕ) (behind n : ℕ) → n < 10000 → length (item key (decimal n) behind) ≤ length key + 5
 number-item key behind n h = omega (arith, item-length key (decimal n) behind, four-digits n h)
 
@@ -149,7 +126,7 @@ module _ (log : List ℕ) (well : log-refusal log ≡ Passed) where
 
   -- THE LINES BEFORE THEM
   pub steps-fits : length (header (steps log)) ≤ most-short
-  steps-fits = let h : steps log ≤ most-steps = few-steps log well in steps-length (steps log) (omega arith)
+  steps-fits = let h : steps log ≤ most-steps = steps-within log well in steps-length (steps log) (omega arith)
 
   pub committed-fits : length (committed-line (committed-count log)) ≤ most-short
   committed-fits = let h : committed-count log ≤ most-steps = few-committed log well in committed-length (committed-count log) (omega arith)

@@ -2,14 +2,15 @@
 use mathlib.Core.Path.{_≡_, refl, sym, ap, subst, _∙_}
 use mathlib.Core.Bool.{true}
 use mathlib.Core.List.{List, [], _∷_, _++_, append-nil, append-assoc}
-use Prim.Native.Nat.{ℕ, suc, _+_, _*_, _≤_}
+use Prim.Native.Nat.{ℕ, zero, suc, _+_, _-_, _*_, _≤_, _<_}
 use native.Mathlib.Omega.{arith}
 use native.Mathlib.Numerals.{add-one}
-use lib.ListN.{length, drop, length-append}
+use lib.ListN.{length, getD, drop, length-append}
 use lib.Seq.{take-at, drop-append-add, drop-drop}
 use Rattle.text.specs.Line.{line, sayable-step}
 use Rattle.text.specs.Text.{lines, Steps, no-step, a-step}
-use Rattle.text.specs.Inner.Put.{put-at}
+use Rattle.text.specs.Inner.Put.{put-at, Fits}
+use Rattle.text.specs.Inner.StepLine.{line-of}
 use Rattle.text.specs.Inner.Finds.{FindsLine, kept, Passes}
 use Rattle.text.specs.declared.line.Line.the-variants.{At}
 use Rattle.text.specs.declared.line.Lines.the-variants.{To}
@@ -26,6 +27,53 @@ lines-none log = refl
 pub lines-first : (n k t x s : ℕ) (log : List ℕ) → lines (suc n) (k ∷ t ∷ x ∷ s ∷ log) ≡ line k t x s ++ lines n log
 unfolding lines kind tx obj src
 lines-first n k t x s log = refl
+
+-- the steps behind the first
+getD-drop : (n a b : ℕ) (l : List ℕ) → n + a ≡ b → getD (drop n l) a 0 ≡ getD l b 0
+getD-drop zero a b l e = let f : a ≡ b = omega arith in rw f refl
+getD-drop (suc n) a b [] e = refl
+getD-drop (suc n) a zero (c ∷ l) e = absurd (omega arith)
+getD-drop (suc n) a (suc b) (c ∷ l) e = getD-drop n a b l (omega arith)
+
+pub step-behind : (P : ℕ → ℕ → ℕ → ℕ → Type 0) (log : List ℕ) (i : ℕ)
+    → P (kind log (suc i)) (tx log (suc i)) (obj log (suc i)) (src log (suc i))
+    → P (kind (drop 4 log) i) (tx (drop 4 log) i) (obj (drop 4 log) i) (src (drop 4 log) i)
+unfolding kind tx obj src
+step-behind P log i p =
+    rw (
+      getD-drop 4 (4 * i) (4 * suc i) log (omega arith),
+      getD-drop 4 (4 * i + 1) (4 * suc i + 1) log (omega arith),
+      getD-drop 4 (4 * i + 2) (4 * suc i + 2) log (omega arith),
+      getD-drop 4 (4 * i + 3) (4 * suc i + 3) log (omega arith),
+    ) p
+
+line-behind : (log : List ℕ) (i : ℕ) → line-of (drop 4 log) i ≡ line-of log (suc i)
+unfolding line-of
+line-behind log i = step-behind (λ k t x s. line k t x s ≡ line-of log (suc i)) log i refl
+
+-- one line more, of any log
+lines-more′ : (n : ℕ) (log : List ℕ) → lines (suc n) log ≡ lines n log ++ line-of log n
+unfolding lines line-of
+lines-more′ zero log = append-nil (line-of log 0)
+lines-more′ (suc n) log =
+    ap (λ (u : List ℕ). line-of log 0 ++ u) (lines-more′ n (drop 4 log) ∙ ap (λ (u : List ℕ). lines n (drop 4 log) ++ u) (line-behind log n))
+    ∙ sym (append-assoc (line-of log 0) (lines n (drop 4 log)) (line-of log (suc n)))
+
+pub lines-more : (n : ℕ) (log : List ℕ) → lines (n + 1) log ≡ lines n log ++ line-of log n
+lines-more n log = rw (add-one n) (lines-more′ n log)
+
+-- .. has room where all have
+lines-grow : (m n : ℕ) (log : List ℕ) → length (lines n log) ≤ length (lines (n + m) log)
+lines-grow zero n log = let e : n + 0 ≡ n = omega arith in rw e (omega arith)
+lines-grow (suc m) n log =
+    let e : n + suc m ≡ n + m + 1 = omega arith in
+    rw e (omega (arith, ap length (lines-more (n + m) log) ∙ length-append (lines (n + m) log) (line-of log (n + m)), lines-grow m n log))
+
+pub more-fits : (n i : ℕ) (log l : List ℕ) (at : ℕ) → i < n → Fits (lines n log) at l → Fits (lines i log ++ line-of log i) at l
+more-fits n i log l at h f =
+    let e : i + 1 + (n - (i + 1)) ≡ n = omega arith in
+    let g : length (lines (i + 1) log) ≤ length (lines n log) = rw e at (lines-grow (n - (i + 1)) (i + 1) log) in
+    omega (arith, ap length (lines-more i log))
 
 -- one step more, at the end
 module _ (k t x s : ℕ) where

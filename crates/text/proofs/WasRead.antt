@@ -15,6 +15,7 @@ use Rattle.text.specs.Reading.{Says}
 use Rattle.text.specs.ReadCall.{most-bytes, step-entries, ReadRefusal, wrong-buffer, too-long, by-line, said-steps, leaves-steps, ReadCall}
 use Rattle.text.specs.ReportLine.{refused-line}
 use Rattle.text.specs.Report.{ReportOf, text-too-long, text-refused}
+use Rattle.text.specs.declared.TextAnswer.{TextAnswer}
 use Rattle.text.specs.declared.TextAnswer.the-variants as text-answer
 use Rattle.text.proofs.Runs.{steps-length}
 use Rattle.text.proofs.Only.{steps-count}
@@ -30,6 +31,7 @@ pub record Was (text buffer′ : List ℕ) (n : ℕ) : Type 0 where
 passed-short : {text buffer : List ℕ} → ReadRefusal text buffer Passed → length text ≤ most-bytes
 passed-short (by-line h k r) = k
 
+-- a refusal
 module _ (text buffer : List ℕ) (size : length buffer ≡ step-entries) where
   by-refusal : {n p : ℕ} → ReadRefusal text buffer (Refused n p) → ReportOf text (refused-line n p)
   by-refusal (wrong-buffer h) = absurd (h size)
@@ -44,17 +46,23 @@ module _ (text buffer : List ℕ) (size : length buffer ≡ step-entries) where
       rw (i, j) (by-refusal g)
   refused-report (answered log g h e f) = let z : _≡_ {A = ℕ} 0 1 = cc in absurd (omega arith)
 
-  pub was-read : {n : ℕ} {buffer′ : List ℕ} → ReadCall text buffer (text-answer.Accepted n) buffer′ → Was text buffer′ n
-  unfolding said-steps leaves-steps entries
-  was-read (turned-away m q g e f) = let z : _≡_ {A = ℕ} 0 1 = cc in absurd (omega arith)
-  was-read {n} (answered log g h e f) =
-      let i : n ≡ steps log = cc in
-      let j : n ≡ h .n = i ∙ steps-count (h .each) in
-      let k : length log ≡ 4 * n = steps-length (h .each) ∙ ap (λ (m : ℕ). 4 * m) (sym j) in
-      record {
-        log = log;
-        short = passed-short g;
-        says = h;
-        few = omega (arith, h .few);
-        holds = ap (take (4 * n)) (buffer-one f) ∙ take-at log (zeros (step-entries - length log)) (4 * n) k;
-      }
+-- the steps
+pub was-read : {text buffer : List ℕ} {n : ℕ} {buffer′ : List ℕ} → ReadCall text buffer (text-answer.Accepted n) buffer′ → Was text buffer′ n
+unfolding said-steps leaves-steps entries
+was-read (turned-away m q g e f) = let z : _≡_ {A = ℕ} 0 1 = cc in absurd (omega arith)
+was-read {n} (answered log g h e f) =
+    let i : n ≡ steps log = cc in
+    let j : n ≡ h .n = i ∙ steps-count (h .each) in
+    let k : length log ≡ 4 * n = steps-length (h .each) ∙ ap (λ (m : ℕ). 4 * m) (sym j) in
+    record {
+      log = log;
+      short = passed-short g;
+      says = h;
+      few = omega (arith, h .few);
+      holds = ap (take (4 * n)) (buffer-one f) ∙ take-at log (zeros (step-entries - length log)) (4 * n) k;
+    }
+
+-- they are within their buffer
+pub steps-within-buffer : {text buffer buffer′ : List ℕ} {r : TextAnswer} {n : ℕ} → r ≡ text-answer.Accepted n → length buffer′ ≡ step-entries
+    → ReadCall text buffer r buffer′ → (n ≤ most-steps) × (4 * n ≤ length buffer′)
+steps-within-buffer e size c = let w = was-read (rw e at c) in (w .few, omega (arith, w .few))

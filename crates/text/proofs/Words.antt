@@ -8,7 +8,7 @@ use Prim.Native.Char.{code}
 use native.Mathlib.Omega.{arith}
 use lib.ListN.{length, getD, drop}
 use Rattle.words.specs.Tests.{_is_, _upto_, _and_, if_then_else_}
-use Rattle.words.proofs.Truth.{decide, not-both, and→, upto→, is→, isnt→}
+use Rattle.words.proofs.Truth.{decide, not-both, and→, upto→, is→, isnt→, →isnt}
 use Rattle.text.specs.Bytes.{bytes}
 use Rattle.text.specs.Line.{word, item, op, has-word}
 use Rattle.text.specs.Inner.Finds.{starts, Finds}
@@ -64,6 +64,11 @@ kind-word read = refl
 kind-word write = refl
 kind-word commit = refl
 kind-word abort = refl
+
+-- what is none of the first four has the word of the fifth
+pub other-op : (k : ℕ) → (k ≡ 1 → ⊥) → (k ≡ 2 → ⊥) → (k ≡ 3 → ⊥) → (k ≡ 4 → ⊥) → op k ≡ op 5
+unfolding op word _is_ if_then_else_
+other-op k a b c d = rw (→isnt a, →isnt b, →isnt c, →isnt d) refl
 
 -- a kind that stands there
 pub op-stands : (text : List ℕ) (at : ℕ) {k : ℕ} → Kind k → at ≤ length text → starts (op k) (drop at text) ≡ true → Finds op has-word text at (At k (at + length (op k)))

@@ -8,4 +8,5 @@ pub mod ReadCall
 pub mod ReportLine
 pub mod Report
 pub mod ReportCall
+pub mod WriteCall
 pub mod Inner

@@ -1,4 +1,4 @@
-// The text reader and the report.
+// The text reader, the writer and the report.
 mod clear;
 mod decimal;
 mod line;
@@ -6,8 +6,10 @@ mod number;
 mod put;
 mod report_line;
 mod reports;
+mod writer;
 
 pub use reports::report;
+pub use writer::write;
 ghost use mathlib.Core.Path.{_≡_};
 ghost use mathlib.Core.List.{_++_};
 ghost use Prim.Native.Nat.{_≤_};
@@ -30,6 +32,9 @@ pub struct Text {
 
 impl Text {
     pub const LIMIT: usize = 33803;
+
+    // How many bytes the buffer has into which a text is written.
+    pub const WRITTEN: usize = 33803;
 
     // How many bytes the buffer for the report of a text has.
     pub const REPORT: usize = 2048;

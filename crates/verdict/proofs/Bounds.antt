@@ -36,7 +36,7 @@ use Rattle.verdict.specs.Version.{version-edge, Version, version, versio
 use Rattle.verdict.specs.Replay.{serial}
 use Rattle.verdict.specs.Exact.{Exact, exact, exact-none, exact-unclean}
 use Rattle.verdict.specs.Next.{Next, next, next-none, list-refusal}
-use Rattle.verdict.proofs.WellFormed.{refused≢passed, else-try→, when→, Well, well-formed}
+use Rattle.verdict.proofs.WellFormed.{refused≢passed, when→, steps-within, Well, well-formed}
 use Rattle.verdict.proofs.Cleanly.{cleanness-clean, clean≢unclean}
 use Rattle.verdict.proofs.Versions.{not-zero}
 use Rattle.verdict.proofs.Computed.{loosely-serial, explains-serial, conflict-ends, version-ends}
@@ -136,14 +136,10 @@ module _ (log : List ℕ) (well : log-refusal log ≡ Passed) where
   formed : Well transactions log
   formed = well-formed log well
 
-  pub few-steps : steps log ≤ most-steps
-  unfolding log-refusal
-  few-steps = not-below→ (when→ 2 0 _ (else-try→ (else-try→ well .1) .0))
-
   pub few-committed : committed-count log ≤ most-steps
   unfolding committed-count
   few-committed =
-      let h : steps log ≤ most-steps = few-steps in
+      let h : steps log ≤ most-steps = steps-within log well in
       let k : committed-count log ≤ steps log = count-upto (steps log) _ in
       omega arith
 
@@ -186,7 +182,7 @@ module _ (log : List ℕ) (well : log-refusal log ≡ Passed) where
       k = lowest (steps log) (faulty-read log)
 
       low : k ≤ most-steps
-      low = omega (arith, lowest-bound {n = steps log} (faulty-read log), few-steps)
+      low = omega (arith, lowest-bound {n = steps log} (faulty-read log), steps-within log well)
 
       go : (b c : Bool) → (if b then Yes else Unclean (if c then Aborted k else Unfinal k)) ≡ Unclean f → FaultUpto most-steps f
       go true c e = absurd (clean≢unclean refl e)
@@ -210,7 +206,7 @@ module _ (log : List ℕ) (well : log-refusal log ≡ Passed) where
       go true f =
           let h : s < b = f refl in
           let r = formed .range s (omega (arith, within)) in
-          committed-upto {s = s} (r .0) (omega (arith, r .1)) (omega (arith, within, few-steps))
+          committed-upto {s = s} (r .0) (omega (arith, r .1)) (omega (arith, within, steps-within log well))
       go false f = store-fine
 
   pub snapshot-few : SnapshotUpto most-steps (suc transactions) (snapshot-verdict transactions log)
@@ -224,7 +220,7 @@ module _ (log : List ℕ) (well : log-refusal log ≡ Passed) where
       t = lowest (suc transactions) (clash log k)
 
       low : k ≤ most-steps
-      low = omega (arith, lowest-bound {n = steps log} (wrong-step transactions log), few-steps)
+      low = omega (arith, lowest-bound {n = steps log} (wrong-step transactions log), steps-within log well)
 
       go : (b c : Bool) → SnapshotUpto most-steps (suc transactions) (if b then if c then Read k (wanted log k) else Write k t else snapshot-is.Yes)
       go true true = read-upto low (wanted-few k)

@@ -1,11 +1,12 @@
 -- What is known of a log that no number turns away.
 use mathlib.Core.Path.{_≡_, refl, sym, subst}
 use mathlib.Core.Bool.{Bool, true, false}
-use mathlib.Core.Logic.{_⊎_, inl, inr, ⊎-elim}
+use mathlib.Core.Logic.{_⊎_, inl, inr}
 use mathlib.Core.List.{List}
-use Prim.Native.Nat.{ℕ, zero, suc, _≤_, _<_}
+use Prim.Native.Nat.{ℕ, zero, suc, _*_, _%_, _≤_, _<_}
 use native.Mathlib.Omega.{arith}
 use native.Mathlib.Nat.{not-suc-le-zero}
+use lib.ListN.{length}
 use Rattle.words.specs.Tests.{_is_, _below_, _upto_, _and_, _or_, fails}
 use Rattle.verdict.specs.Limits.{transactions, objects, most-steps}
 use Rattle.verdict.specs.Log.{steps, kind, tx, obj, src, commits, writer, begun, ended, wrote}
@@ -13,7 +14,7 @@ use Rattle.verdict.specs.declared.answers.Checked.{Checked}
 use Rattle.verdict.specs.declared.answers.Checked.the-variants.{Passed, Refused}
 use Rattle.verdict.specs.Refusal.{_at_when_, _else-try_, tried, object-allowed, source-allowed, range-refusal, life-refusal, source-refusal, step-refusal, log-refusal}
 use Rattle.verdict.specs.Inner.Checking.{InRange}
-use Rattle.words.proofs.Truth.{decide, not-both, to-true, and→, →and, →or-left, →or-right, →fails, is→, →is, →isnt, upto→, below→, not-below→, some→, →some, if-true}
+use Rattle.words.proofs.Truth.{decide, not-both, to-true, and→, →and, →or-left, →or-right, →fails, not-fails→, is→, →is, →isnt, upto→, below→, not-below→, some→, →some, if-true, if-false}
 
 Has-passed : Checked → Type 0
 Has-passed Passed = Unit {0}
@@ -44,6 +45,10 @@ tried→ {n = suc n} f h i k = go (decide (i below n)) (else-try→ h .1) (λ m.
 
 -- a step to which none of 3 to 6 applies
 module _ (log : List ℕ) (i : ℕ) (within : InRange log i) where
+  test-3 : fails (1 upto kind log i and kind log i upto 5) ≡ false
+  unfolding InRange range-refusal
+  test-3 = when→ 3 i _ (else-try→ within .0)
+
   test-4 : fails (1 upto tx log i and tx log i upto transactions) ≡ false
   unfolding InRange range-refusal
   test-4 = when→ 4 i _ (else-try→ (else-try→ within .1) .0)
@@ -56,21 +61,34 @@ module _ (log : List ℕ) (i : ℕ) (within : InRange log i) where
   unfolding InRange range-refusal
   test-6 = when→ 6 i _ (else-try→ (else-try→ (else-try→ within .1) .1) .1)
 
+  -- kinds are 1..5
+  pub kind-within : (1 ≤ kind log i) × (kind log i ≤ 5)
+  kind-within = let r = and→ (not-fails→ test-3) in (upto→ (r .0), upto→ (r .1))
+
   -- transactions are 1..128
   pub tx-within : (1 ≤ tx log i) × (tx log i ≤ transactions)
-  tx-within = let r = and→ (to-true _ (λ q. not-both (→fails q) test-4)) in (upto→ (r .0), upto→ (r .1))
+  tx-within = let r = and→ (not-fails→ test-4) in (upto→ (r .0), upto→ (r .1))
 
-  -- objects of reads and writes are 0..63
-  pub object-within : (kind log i ≡ 2) ⊎ (kind log i ≡ 3) → obj log i < objects
+  -- objects are 0..63
+  pub object-within : obj log i < objects
   unfolding object-allowed
-  object-within k =
-      let t : (kind log i is 2 or kind log i is 3) ≡ true = ⊎-elim (λ (e : kind log i ≡ 2). →or-left _ (→is e)) (λ (e : kind log i ≡ 3). →or-right _ (→is e)) k in
-      below→ (rw (if-true (obj log i below objects) (obj log i is 0) t) at (to-true _ (λ q. not-both (→fails q) test-5)))
+  object-within = go (decide (kind log i is 2 or kind log i is 3))
+    where
+      allowed : object-allowed (kind log i) (obj log i) ≡ true
+      allowed = not-fails→ test-5
 
-  -- sources of reads are 0..128
+      go : ((kind log i is 2 or kind log i is 3) ≡ true) ⊎ ((kind log i is 2 or kind log i is 3) ≡ false) → obj log i < objects
+      go (inl t) = below→ (rw (if-true (obj log i below objects) (obj log i is 0) t) at allowed)
+      go (inr t) = omega (arith, is→ (rw (if-false (obj log i below objects) (obj log i is 0) t) at allowed))
+
+  -- sources of reads are 0..128, and all others are 0
   pub source-within : kind log i ≡ 2 → src log i ≤ transactions
   unfolding source-allowed
-  source-within k = upto→ (rw (if-true (src log i upto transactions) (src log i is 0) (→is k)) at (to-true _ (λ q. not-both (→fails q) test-6)))
+  source-within k = upto→ (rw (if-true (src log i upto transactions) (src log i is 0) (→is k)) at (not-fails→ test-6))
+
+  pub source-none : (kind log i ≡ 2 → ⊥) → src log i ≡ 0
+  unfolding source-allowed
+  source-none k = is→ (rw (if-false (src log i upto transactions) (src log i is 0) (→isnt k)) at (not-fails→ test-6))
 
 -- .. which is so where no number turns the step away
 pub step-within : (log : List ℕ) (i : ℕ) → step-refusal log i ≡ Passed → InRange log i
@@ -82,13 +100,18 @@ module _ (log : List ℕ) (well : log-refusal log ≡ Passed) where
   unfolding log-refusal
   step-taken = tried→ _ (else-try→ (else-try→ (else-try→ well .1) .1) .0)
 
+  -- four numbers for each step
+  pub whole-steps : length log ≡ 4 * steps log
+  unfolding log-refusal steps
+  whole-steps = let e : length log % 4 ≡ 0 = is→ (not-fails→ (when→ 1 0 _ (else-try→ well .0))) in omega arith
+
   pub steps-within : steps log ≤ most-steps
   unfolding log-refusal
   steps-within = not-below→ (when→ 2 0 _ (else-try→ (else-try→ well .1) .0))
 
   -- the tests that the theorems rest on fail at each step
   module _ (i : ℕ) (h : i < steps log) where
-    ranges : InRange log i
+    pub ranges : InRange log i
     ranges = step-within log i (step-taken i h)
 
     test-8 : (fails (kind log i is 1) and (fails (begun log i (tx log i)) or ended log i (tx log i))) ≡ false
@@ -129,4 +152,4 @@ pub record Well (most : ℕ) (log : List ℕ) : Type 0 where
   pub once : (t i j : ℕ) → i < j → j < steps log → commits log t i ≡ true → commits log t j ≡ true → ⊥
 
 pub well-formed : (log : List ℕ) → log-refusal log ≡ Passed → Well transactions log
-well-formed log well = record { range = λ i h. tx-within log i (ranges log well i h); object = λ i h. object-within log i (ranges log well i h); sources = λ i h. source-within log i (ranges log well i h); source = source-wrote log well; once = commits-once log well }
+well-formed log well = record { range = λ i h. tx-within log i (ranges log well i h); object = λ i h k. object-within log i (ranges log well i h); sources = λ i h. source-within log i (ranges log well i h); source = source-wrote log well; once = commits-once log well }

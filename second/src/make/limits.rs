@@ -1,5 +1,6 @@
 //! Logs at the limits: 1,024 steps, 128 transactions, object 63, cycles of 2
-//! to 128 members, chains, no edges, and what lies just beyond.
+//! to 128 members, chains, no edges, the longest text, and what lies just
+//! beyond.
 
 use super::draft::{Draft, Numbers, BEGIN, COMMIT, READ, WRITE};
 use super::play::{play, Cast, Manner, Sources};
@@ -8,7 +9,7 @@ use crate::rng::Rng;
 
 /// Each index aims at one limit.
 pub fn text(rng: &mut Rng, index: usize) -> Vec<u8> {
-    let draft = match index % 16 {
+    let draft = match index % 17 {
         0 => full(rng, 128, 64),
         1 => full_with_few_objects(rng),
         2 => full(rng, 1, 64),
@@ -24,10 +25,11 @@ pub fn text(rng: &mut Rng, index: usize) -> Vec<u8> {
         12 => beyond_the_steps(rng),
         13 => last_step_beyond(rng),
         14 => serial_snapshot(rng),
-        _ => two_rings(rng),
+        15 => two_rings(rng),
+        _ => longest(rng),
     };
     let mut text = draft.text();
-    if index % 16 == 12 && rng.chance(1, 2) {
+    if index % 17 == 12 && rng.chance(1, 2) {
         text = [b"steps=1025\n", &text[..]].concat();
     }
     text
@@ -212,6 +214,21 @@ fn nearly_nine(rng: &mut Rng) -> Draft {
     manner.aborts = 0;
     manner.first_committer_wins = false;
     play(rng, &cast, manner)
+}
+
+/// The longest text: one transaction writes once and reads that 1,021 times,
+/// with as many digits as the numbers may have.
+fn longest(rng: &mut Rng) -> Draft {
+    let tx = rng.between(100, 128) as u16;
+    let obj = rng.between(10, 63) as u16;
+    let mut draft = Draft::default();
+    draft.begin(tx);
+    draft.write(tx, obj);
+    for _ in 0..1021 {
+        draft.read(tx, obj, tx);
+    }
+    draft.commit(tx);
+    draft
 }
 
 /// 1,025 steps, sound apart from their number.

@@ -10,3 +10,4 @@ mod points;
 mod samples;
 mod short;
 mod texts;
+mod write;

@@ -16,10 +16,10 @@ abbrev answered : tie.After-judged → tie.After-answer
 answered c = c .before .before .before
 
 abbrev called : tie.After-judged → tie.After-next
-called c = answered c .before .before .before .before
+called c = answered c .before .before .before .before .before
 
 abbrev entry : tie.After-judged → tie.Start
-entry c = called c .before .before .before .before .before
+entry c = called c .before .before .before .before .before .before
 
 within : (c : tie.After-judged) → c .judged .given .0 .0 ≤ length (called c .next .last .1 .1 .1 .0)
 within c =
@@ -34,9 +34,6 @@ slice-aggregate-next c = search needs
 slice-aggregate-next-2 : tie.Need-slice-aggregate-next-2
 slice-aggregate-next-2 c = search needs
 
-slice-aggregate-next-3 : tie.Need-slice-aggregate-next-3
-slice-aggregate-next-3 c = search needs
-
 next-requires : tie.Need-next-requires
 next-requires c κs = search needs
 
@@ -46,23 +43,35 @@ enum-known-answer c = search needs
 enum-known-judged : tie.Need-enum-known-judged
 enum-known-judged c = search needs
 
+slice-aggregate-print-numbers : tie.Need-slice-aggregate-print-numbers
+slice-aggregate-print-numbers c = search needs
+
 array-share-prefix-order : tie.Need-array-share-prefix-order
-array-share-prefix-order c = within (c .before)
+array-share-prefix-order c = within (c .before .before)
 
-slice-aggregate-print-order : tie.Need-slice-aggregate-print-order
-slice-aggregate-print-order c = sym (length-take-le _ _ (within (c .before .before)))
+slice-aggregate-print-numbers-2 : tie.Need-slice-aggregate-print-numbers-2
+slice-aggregate-print-numbers-2 c = sym (length-take-le _ _ (within (c .before .before .before)))
 
-print-order-requires : tie.Need-print-order-requires
-print-order-requires c κs = search needs
+print-numbers-requires : tie.Need-print-numbers-requires
+print-numbers-requires c κs = search needs
+
+same-length : tie.Need-same-length
+same-length c = search needs
 
 returns : tie.Need-returns
-returns c = λ e. fewer (c .before .before .before)
+returns c = λ e. fewer (c .before .before .before .before)
 
 enum-told : tie.Need-enum-told
 enum-told c = search needs
 
+same-length-2 : tie.Need-same-length-2
+same-length-2 c = search needs
+
 returns-2 : tie.Need-returns-2
 returns-2 c = λ e. absurd (false≢true e)
+
+same-length-3 : tie.Need-same-length-3
+same-length-3 c = search needs
 
 returns-3 : tie.Need-returns-3
 returns-3 c = λ e. absurd (false≢true e)
@@ -73,14 +82,17 @@ bring-spec =
     (tie.spec
     slice-aggregate-next
     slice-aggregate-next-2
-    slice-aggregate-next-3
     next-requires
     enum-known-answer
     enum-known-judged
+    slice-aggregate-print-numbers
     array-share-prefix-order
-    slice-aggregate-print-order
-    print-order-requires
+    slice-aggregate-print-numbers-2
+    print-numbers-requires
+    same-length
     returns
     enum-told
+    same-length-2
     returns-2
+    same-length-3
     returns-3)

@@ -22,8 +22,8 @@ returns c = tt
 loop-holds : tie.Need-loop-holds Inv-loop μ-loop
 loop-holds c = tt
 
-print-named-requires : tie.Need-print-named-requires Inv-loop μ-loop
-print-named-requires c κs = tt
+print-file-requires : tie.Need-print-file-requires Inv-loop μ-loop
+print-file-requires c κs = tt
 
 add-i : tie.Need-add-i Inv-loop μ-loop
 add-i c = omega arith
@@ -47,7 +47,7 @@ main-spec =
     print-input-requires
     returns
     loop-holds
-    print-named-requires
+    print-file-requires
     add-i
     loop-less
     loop-again

@@ -43,14 +43,20 @@ enum-known-answer-2 c = search needs
 enum-known-judged : tie.Need-enum-known-judged
 enum-known-judged c = search needs
 
+slice-aggregate-print-numbers : tie.Need-slice-aggregate-print-numbers
+slice-aggregate-print-numbers c = search needs
+
 array-share-prefix-witness : tie.Need-array-share-prefix-witness
-array-share-prefix-witness c = within (c .before)
+array-share-prefix-witness c = within (c .before .before)
 
-slice-aggregate-print-order : tie.Need-slice-aggregate-print-order
-slice-aggregate-print-order c = sym (length-take-le _ _ (within (c .before .before)))
+slice-aggregate-print-numbers-2 : tie.Need-slice-aggregate-print-numbers-2
+slice-aggregate-print-numbers-2 c = sym (length-take-le _ _ (within (c .before .before .before)))
 
-print-order-requires : tie.Need-print-order-requires
-print-order-requires c κs = search needs
+print-numbers-requires : tie.Need-print-numbers-requires
+print-numbers-requires c κs = search needs
+
+slice-aggregate-print-later : tie.Need-slice-aggregate-print-later
+slice-aggregate-print-later c = search needs
 
 print-later-requires : tie.Need-print-later-requires
 print-later-requires c κs = search needs
@@ -78,9 +84,11 @@ print-listing-spec =
     print-refused-requires
     enum-known-answer-2
     enum-known-judged
+    slice-aggregate-print-numbers
     array-share-prefix-witness
-    slice-aggregate-print-order
-    print-order-requires
+    slice-aggregate-print-numbers-2
+    print-numbers-requires
+    slice-aggregate-print-later
     print-later-requires
     slice-aggregate-write-all
     write-all-requires

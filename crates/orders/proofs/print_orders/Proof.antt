@@ -1,13 +1,13 @@
 -- `print_orders` is safe: the steps that were read are within their buffer.
 use borrow.Author.Needs.{needs}
 use native.Mathlib.Omega.{arith}
-use mathlib.Core.Path.{sym, subst}
+use mathlib.Core.Path.{sym, _∙_}
 use Prim.Native.Nat.{ℕ, _*_, _≤_}
 use lib.ListN.{length, length-replicate, replicate}
 use lib.Seq.{length-take-le}
-use Rattle.text.specs.ReadCall.{step-entries, ReadCall}
-use Rattle.text.specs.declared.TextAnswer.{TextAnswer}
-use Rattle.text.proofs.WasRead.{Was, was-read}
+use Rattle.verdict.specs.Limits.{most-steps}
+use Rattle.text.specs.ReadCall.{step-entries}
+use Rattle.text.proofs.WasRead.{steps-within-buffer}
 use Rattle.orders.proofs.print_orders.Statement.{statement}
 use Rattle.orders.proofs.print_orders.Tie as tie
 
@@ -18,15 +18,11 @@ called c = c .before .before .before
 abbrev entry : tie.After-answer2 → tie.Start
 entry c = called c .before .before .before
 
--- what was read
-was : (c : tie.After-answer2) → Was (entry c .args .text .now) (called c .read .last .1 .0) (c .answer2 .given .0 .0)
-was c =
-    let text = entry c .args .text .now in
-    was-read text (replicate step-entries 0) (length-replicate {A = ℕ} step-entries 0)
-    (subst (λ (r : TextAnswer). ReadCall text (replicate step-entries 0) r (called c .read .last .1 .0)) (c .answer2 .given .1) (called c .read .ensures))
-
-within : (c : tie.After-answer2) → 4 * c .answer2 .given .0 .0 ≤ length (called c .read .last .1 .0)
-within c = omega (arith, was c .few, called c .read .kept .1 .0, length-replicate {A = ℕ} step-entries 0)
+-- the steps that were read
+within : (c : tie.After-answer2) → (c .answer2 .given .0 .0 ≤ most-steps) × (4 * c .answer2 .given .0 .0 ≤ length (called c .read .last .1 .0))
+within c =
+    steps-within-buffer {text = entry c .args .text .now} {buffer = replicate step-entries 0} (c .answer2 .given .1)
+    (called c .read .kept .1 .0 ∙ length-replicate {A = ℕ} step-entries 0) (called c .read .ensures)
 
 slice-aggregate-read : tie.Need-slice-aggregate-read
 slice-aggregate-read c = search needs
@@ -44,13 +40,13 @@ enum-known-answer-2 : tie.Need-enum-known-answer-2
 enum-known-answer-2 c = search needs
 
 mul-end : tie.Need-mul-end
-mul-end c = omega (arith, was (c .before) .few)
+mul-end c = omega (arith, within (c .before) .0)
 
 array-share-prefix-steps : tie.Need-array-share-prefix-steps
-array-share-prefix-steps c = within (c .before)
+array-share-prefix-steps c = within (c .before) .1
 
 slice-aggregate-print-listing : tie.Need-slice-aggregate-print-listing
-slice-aggregate-print-listing c = sym (length-take-le _ _ (within (c .before .before)))
+slice-aggregate-print-listing c = sym (length-take-le _ _ (within (c .before .before) .1))
 
 print-listing-requires : tie.Need-print-listing-requires
 print-listing-requires c κs = search needs

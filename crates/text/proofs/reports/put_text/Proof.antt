@@ -44,7 +44,7 @@ found c =
 was : (c : tie.After-answer2) → Was (entry (reading c) .args .text .now) (reading c .read .last .1 .0) (c .answer2 .given .0 .0)
 was c =
     let d = reading c in
-    was-read (entry d .args .text .now) buffer sized (subst (Answers d) (c .answer2 .given .1) (d .read .ensures))
+    was-read (subst (Answers d) (c .answer2 .given .1) (d .read .ensures))
 
 -- the steps that were read are in the buffer
 within : (c : tie.After-answer2) → 4 * c .answer2 .given .0 .0 ≤ length (reading c .read .last .1 .0)

@@ -46,7 +46,7 @@ object-is : (c : tie.After-index2) → c .index2 .result ≡ obj (entry (written
 object-is c = c .index2 .ensures ∙ written c .before .step-at .ensures .obj-is
 
 object-in : (c : tie.After-index2) → obj (entry (written c) .args .log .now) (entry (written c) .args .i) < objects
-object-in c = object-within _ _ (entry (written c) .pre .1) (inr (is-write c))
+object-in c = object-within _ _ (entry (written c) .pre .1)
 
 step-at-requires : tie.Need-step-at-requires
 step-at-requires c κs = search needs

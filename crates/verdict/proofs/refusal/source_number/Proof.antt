@@ -32,7 +32,7 @@ tx-in : (c : tie.Else1) → tx (entry c .args .log .now) (entry c .args .i) ≤ 
 tx-in c = tx-within _ _ (entry c .pre .1) .1
 
 object-in : (c : tie.Else1) → obj (entry c .args .log .now) (entry c .args .i) < objects
-object-in c = object-within _ _ (entry c .pre .1) (inl (is-read c))
+object-in c = object-within _ _ (entry c .pre .1)
 
 source-in : (c : tie.Else1) → src (entry c .args .log .now) (entry c .args .i) ≤ transactions
 source-in c = source-within _ _ (entry c .pre .1) (is-read c)

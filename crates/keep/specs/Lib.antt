@@ -1,0 +1,2 @@
+-- What the program keeps of a log.
+pub mod Kept

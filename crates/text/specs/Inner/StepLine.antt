@@ -1,0 +1,8 @@
+-- The line of one step of a log, for the functions that put it.
+use mathlib.Core.List.{List}
+use Prim.Native.Nat.{ℕ}
+use Rattle.verdict.specs.Log.{kind, tx, obj, src}
+use Rattle.text.specs.Line.{line}
+
+unfoldable pub line-of : List ℕ → ℕ → List ℕ
+line-of log i = line (kind log i) (tx log i) (obj log i) (src log i)
