@@ -5,7 +5,7 @@ use mathlib.Core.List.{List}
 use Prim.Native.Nat.{ℕ, _≤_, _<_}
 use native.Mathlib.Omega.{arith}
 use Rattle.words.specs.Tests.{fails, lowest}
-use Rattle.words.proofs.Truth.{to-true, →and, and-no-left, and-no-right, and-true, →or-left, or-false, →fails, →not-fails, →is, →isnt, if-true, if-false, lowest-none, lowest-some}
+use Rattle.words.proofs.Truth.{to-true, not-both, and→, →and, and-no-left, and-no-right, and-true, →or-left, or-false, →fails, →not-fails, →is, →isnt, if-true, if-false, lowest-is, lowest-passes, lowest-none, lowest-some}
 use Rattle.verdict.specs.Log.{steps, obj, src, committed, aborted}
 use Rattle.verdict.specs.declared.answers.Fault.the-variants.{Aborted, Unfinal}
 use Rattle.verdict.specs.declared.answers.Cleanness.the-variants.{Yes, Unclean}
@@ -34,6 +34,14 @@ module _ (log : List ℕ) (i : ℕ) where
         twice true = unfold fails in refl
         twice false = unfold fails in refl
 
+  -- a faulty read is a judged one from another than 0
+  pub faulty-judged : faulty-read log i ≡ true → judged-other log i ≡ true
+  unfolding faulty-read
+  faulty-judged f = and→ f .0
+
+  pub faulty-source : faulty-read log i ≡ true → src log i ≡ 0 → ⊥
+  faulty-source f z = not-both f (source-zero z)
+
 -- the verdict, by the lowest faulty step
 module _ (log : List ℕ) where
   pub no-fault : steps log ≤ lowest (steps log) (faulty-read log) → cleanness log ≡ Yes
@@ -44,6 +52,9 @@ module _ (log : List ℕ) where
     faulty : cleanness log ≡ Unclean (fault-at log k)
     unfolding cleanness is-clean
     faulty = if-false _ _ (→not-fails (to-true _ (λ n. let z : lowest (steps log) (faulty-read log) ≡ steps log = lowest-none (faulty-read log) n in omega arith))) ∙ ap (λ (j : ℕ). Unclean (fault-at log j)) (sym e)
+
+    pub faulty-there : faulty-read log k ≡ true
+    faulty-there = rw e (lowest-is {n = steps log} (faulty-read log) (lowest-passes (faulty-read log) (omega arith)) .1)
 
     pub from-aborted : aborted log (src log k) ≡ true → cleanness log ≡ Unclean (Aborted k)
     unfolding fault-at

@@ -15,16 +15,16 @@ use Rattle.verdict.specs.Log.{steps, kind, tx, obj, writes}
 use Rattle.verdict.specs.Clean.{writes-later}
 use Rattle.verdict.specs.Inner.LastWrites.{latest, LastWrites}
 
-latest-yes : (n : ℕ) (p : ℕ → Bool) → p n ≡ true → latest (n + 1) p ≡ n + 1
+pub latest-yes : (n : ℕ) (p : ℕ → Bool) → p n ≡ true → latest (n + 1) p ≡ n + 1
 unfolding latest
 latest-yes n p h = rw (add-one n) (if-true _ _ h)
 
-latest-no : (n : ℕ) (p : ℕ → Bool) → p n ≡ false → latest (n + 1) p ≡ latest n p
+pub latest-no : (n : ℕ) (p : ℕ → Bool) → p n ≡ false → latest (n + 1) p ≡ latest n p
 unfolding latest
 latest-no n p h = rw (add-one n) (if-false _ _ h)
 
 -- one that passes comes later than i exactly when the last one does
-latest-later : (n i : ℕ) (p : ℕ → Bool) → some n (λ j. i below j and p j) ≡ (i + 1 below latest n p)
+pub latest-later : (n i : ℕ) (p : ℕ → Bool) → some n (λ j. i below j and p j) ≡ (i + 1 below latest n p)
 unfolding latest some
 latest-later zero i p = sym (→not-below (omega arith))
 latest-later (suc n) i p = go (decide (p n)) (decide (i below n)) (latest-later n i p)

@@ -7,10 +7,17 @@ pub mod JudgedReads
 pub mod Faults
 pub mod Cleanly
 pub mod WellFormed
+pub mod Ended
+pub mod Examining
 pub mod Frame
 pub mod Marks
-pub mod Tables
+pub mod WriteMarks
+pub mod NextWriters
+pub mod FirstSteps
+pub mod Filled
 pub mod SnapshotLaws
+pub mod WrongReads
+pub mod Clashing
 pub mod Loosely
 pub mod Noting
 pub mod LastWrites
@@ -27,6 +34,8 @@ pub mod Some
 pub mod Memberless
 pub mod Searching
 pub mod SearchTables
+pub mod Roster
+pub mod NeededMarks
 pub mod Only
 pub mod Bounds
 pub mod HandedIn

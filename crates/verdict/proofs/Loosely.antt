@@ -3,7 +3,7 @@ use mathlib.Core.Path.{_≡_, refl, sym, ap, subst, _∙_}
 use mathlib.Core.Bool.{Bool, true, false, false≢true}
 use mathlib.Core.Logic.{_⊎_, inl, inr, ⊎-elim}
 use mathlib.Core.List.{List, [], _∷_, _++_, append-nil, append-assoc}
-use Prim.Native.Nat.{ℕ, zero, suc, _+_, _-_, _*_, _/_, _%_, _≤_, _<_}
+use Prim.Native.Nat.{ℕ, zero, suc, _+_, _-_, _*_, _≤_, _<_}
 use native.Mathlib.Omega.{arith}
 use native.Mathlib.Numerals.{add-one}
 use lib.ListN.{length, getD, set, take}
@@ -11,19 +11,23 @@ use lib.Seq.{take-suc-set}
 use Rattle.words.specs.Tests.{_is_, _below_, _and_, _or_, _implies_, fails, if_then_else_, some, every, count}
 use Rattle.words.specs.Lists.{member, distinct}
 use Rattle.words.specs.First.{dictionary, First, Never}
+use Rattle.graph.specs.Matrix.{takes-part}
+use Rattle.graph.specs.Inner.Peel.{unmarked}
 use Rattle.graph.specs.Order.{once-each}
-use Rattle.words.proofs.Truth.{decide, not-both, to-false, to-true, and→, →and, and-true-right, and-no-left, and-no-right, →or-left, →or-right, or-false, fails→, →fails, →not-fails, implies→, →implies, is→, →is, isnt→, →isnt, below→, →below, not-below→, if-true, if-false, every→, →every, some→, count-none, count-same, count-without, none-counted}
+use Rattle.graph.proofs.Sized.{part-less}
+use Rattle.bits.specs.Word.{marked}
+use Rattle.words.proofs.Truth.{decide, not-both, to-false, to-true, and→, →and, and-true-right, and-no-left, and-no-right, →or-left, →or-right, or-false, fails→, →fails, →not-fails, implies→, →implies, is→, →is, isnt→, →isnt, below→, →below, not-below→, if-true, if-false, every→, →every, some→, count-none, none-counted}
 use Rattle.words.proofs.Places.{member→, member-head, member-tail, all→, →all, distinct→, member-left, member-right, member-either}
 use Rattle.words.proofs.Dictionary.{dictionary-not}
 use Rattle.verdict.specs.Limits.{transactions, objects}
 use Rattle.verdict.specs.Log.{steps, tx, obj, src, committed, writer}
 use Rattle.verdict.specs.Clean.{judged, judged-other, is-clean}
 use Rattle.verdict.specs.Replay.{finds, reads-right, serial, explains-loosely}
-use Rattle.verdict.specs.Inner.Marks.{Marked}
-use Rattle.verdict.specs.Inner.Placing.{barred, needing, allows, needs-source, need, ran, Needs, Writes, Placed, Searched, found, missed}
+use Rattle.verdict.specs.Inner.WriteTable.{WriteTable}
+use Rattle.verdict.specs.Inner.Placing.{barred, needing, allows, needs-source, need, ran, Needs, CommittedList, Placed, Searched, found, missed}
 use Rattle.verdict.proofs.WellFormed.{Well}
 use Rattle.verdict.proofs.Versions.{committed-range}
-use Rattle.verdict.proofs.Marks.{mark-clear}
+use Rattle.verdict.proofs.Marks.{taken-away}
 use Rattle.verdict.proofs.JudgedReads.{is-read}
 
 implies-true : {a b : Bool} → a ≡ true → (a implies b) ≡ b
@@ -218,7 +222,7 @@ module _ (log : List ℕ) (well : Well transactions log) where
               subst (λ (r : ℕ). finds log x r 0 (p ++ t ∷ []) ≡ src log i) (sym e) (finds-behind log x t 0 p [] n ∙ is→ q)
 
       pub placed-more : ((x : ℕ) → x < objects → allows (need log t x (steps log)) (ran log x 0 p) ≡ true) → (free′ last′ : List ℕ)
-          → Marked (suc transactions) (λ a. committed log a and fails (member a (p ++ t ∷ []))) free′
+          → ((a : ℕ) → takes-part transactions free′ a ≡ (committed log a and fails (member a (p ++ t ∷ []))))
           → ((x : ℕ) → x < objects → getD last′ x 0 ≡ (if writer log x t then t else getD last x 0)) → Placed log (p ++ t ∷ []) free′ last′
       placed-more f free′ last′ m w =
           record {
@@ -241,12 +245,8 @@ module _ (log : List ℕ) (well : Well transactions log) where
               ∙ subst (λ (y : ℕ). finds log y t 0 (p ++ t ∷ u) ≡ src log i) (q .2) (subst (λ (y : ℕ). finds log (obj log i) y 0 (p ++ t ∷ u) ≡ src log i) (q .1) r)
 
     -- what goes on behind p is left
-    pub goes-on : (a : ℕ) (u : List ℕ) → explains-loosely transactions log (p ++ a ∷ u) ≡ true → (committed log a ≡ true) × (member a p ≡ false) × (1 ≤ a) × (a ≤ transactions)
-    goes-on a u h =
-        let s = serial-of (p ++ a ∷ u) h in
-        let c : committed log a ≡ true = s .1 a (member-right a p (a ∷ u) (member-head a u)) in
-        let r = committed-range log well a c in
-        (c, distinct-behind a p u (s .0), r .0, r .1)
+    goes-on : (a : ℕ) (u : List ℕ) → explains-loosely transactions log (p ++ a ∷ u) ≡ true → (committed log a ≡ true) × (member a p ≡ false)
+    goes-on a u h = let s = serial-of (p ++ a ∷ u) h in (s .1 a (member-right a p (a ∷ u) (member-head a u)), distinct-behind a p u (s .0))
 
     -- p alone does not explain while one is left, and does when none is
     pub not-all : (t : ℕ) → committed log t ≡ true → member t p ≡ false → explains-loosely transactions log (p ++ []) ≡ false
@@ -267,10 +267,6 @@ module _ (log : List ℕ) (well : Well transactions log) where
 pub take-next : (placed : List ℕ) (at t : ℕ) → at < length placed → take (at + 1) (set placed at t) ≡ take at placed ++ t ∷ []
 take-next placed at t h = rw (add-one at) (take-suc-set placed at t h)
 
--- what holds below t and at t holds below t + 1
-pub and-here : (P : ℕ → Type 0) (t : ℕ) → ((a : ℕ) → a < t → P a) → P t → (a : ℕ) → a < t + 1 → P a
-and-here P t f h a k = ⊎-elim (λ (q : (a below t) ≡ true). f a (below→ q)) (λ (q : (a below t) ≡ false). let e : t ≡ a = omega (arith, not-below→ q) in subst P e h) (decide (a below t))
-
 -- THE FIRST LIST THAT PASSES, BY ITS HEAD
 module _ (passes : List ℕ → Bool) (not-empty : passes [] ≡ false) where
   pub first-head : (t : ℕ) (u : List ℕ) → ((a : ℕ) → a < t → Never (λ v. passes (a ∷ v))) → First dictionary (λ v. passes (t ∷ v)) u → First dictionary passes (t ∷ u)
@@ -287,63 +283,70 @@ module _ (passes : List ℕ → Bool) (not-empty : passes [] ≡ false) where
   no-head f [] = not-empty
   no-head f (a ∷ v) = f a v
 
--- TABLES OF PAIRS: the entry of t and x
-pub pair-row : (t x : ℕ) → x < objects → (t * objects + x) / objects ≡ t
-pair-row t x h = omega arith
+-- THE LIST OF THE COMMITTED ONES
+-- nothing goes on behind p but what the list has from i on
+pub record Tried (log p ones : List ℕ) (n i : ℕ) : Type 0 where
+  pub never : (d : ℕ) → ((k : ℕ) → i ≤ k → k < n → getD ones k 0 ≡ d → ⊥) → Never (λ v. explains-loosely transactions log (p ++ d ∷ v))
 
-pub pair-column : (t x : ℕ) → x < objects → (t * objects + x) % objects ≡ x
-pair-column t x h = omega arith
+module _ (log : List ℕ) {p ones : List ℕ} {n i : ℕ} (tried : Tried log p ones n i) where
+  -- nor does the one at i
+  pub tried-more : Never (λ v. explains-loosely transactions log (p ++ getD ones i 0 ∷ v)) → Tried log p ones n (i + 1)
+  tried-more h = record { never = λ d f. go d f (decide (getD ones i 0 is d)) }
+    where
+      go : (d : ℕ) → ((k : ℕ) → i + 1 ≤ k → k < n → getD ones k 0 ≡ d → ⊥) → ((getD ones i 0 is d) ≡ true) ⊎ ((getD ones i 0 is d) ≡ false) → Never (λ v. explains-loosely transactions log (p ++ d ∷ v))
+      go d f (inl e) = let z : getD ones i 0 ≡ d = is→ e in subst (λ (a : ℕ). Never (λ v. explains-loosely transactions log (p ++ a ∷ v))) z h
+      go d f (inr e) = tried .never d (λ k l m q. ⊎-elim (λ (b : (i below k) ≡ true). f k (omega (arith, below→ b)) m q) (λ (b : (i below k) ≡ false). let z : k ≡ i = omega (arith, not-below→ b) in isnt→ e (rw z at q)) (decide (i below k)))
+
+  -- none that is lower than the one at i goes on
+  pub tried-below : CommittedList log ones n → i < n → (a : ℕ) → a < getD ones i 0 → Never (λ v. explains-loosely transactions log (p ++ a ∷ v))
+  tried-below list l a h = tried .never a later
+    where
+      later : (k : ℕ) → i ≤ k → k < n → getD ones k 0 ≡ a → ⊥
+      later k m b q = ⊎-elim (λ (e : (i below k) ≡ true). omega (arith, list .rising i k (below→ e) b)) (λ (e : (i below k) ≡ false). let z : k ≡ i = omega (arith, not-below→ e) in let w : getD ones i 0 ≡ a = rw z at q in omega arith) (decide (i below k))
 
 -- THE SEARCH, STEP BY STEP
 module _ (log : List ℕ) (well : Well transactions log) (p free last : List ℕ) (placed : Placed log p free last) where
-  E : List ℕ → Bool
-  E w = explains-loosely transactions log w
-
-  -- whether t is left
-  marks : ℕ → Bool
-  marks t = fails (getD free t 0 is 0)
-
-  marks→ : (t : ℕ) → t ≤ transactions → marks t ≡ true → (committed log t ≡ true) × (member t p ≡ false)
-  unfolding marks
-  marks→ t h m = let r = and→ (sym (placed .left .mark t (omega arith)) ∙ m) in (r .0, fails→ (r .1))
+  -- who is left committed and is not placed
+  left→ : (t : ℕ) → takes-part transactions free t ≡ true → (committed log t ≡ true) × (member t p ≡ false)
+  left→ t m = let r = and→ (sym (placed .left t) ∙ m) in (r .0, fails→ (r .1))
 
   -- all are placed
-  pub search-done : (n : ℕ) (order : List ℕ) → is-clean log ≡ true → count (suc transactions) (λ t. fails (getD free t 0 is 0)) ≡ 0 → take n order ≡ p → Searched log p n true order
+  pub search-done : (n : ℕ) (order : List ℕ) → is-clean log ≡ true → count (suc transactions) (takes-part transactions free) ≡ 0 → take n order ≡ p → Searched log p n true order
   search-done n order cl z e =
       found []
       (record {
-        one = all-placed log well p free last placed cl (λ (t : ℕ) (h : t ≤ transactions) c. to-true _ (λ k. not-both (→and c (→fails k)) (sym (placed .left .mark t (omega arith)) ∙ none-counted (suc transactions) (λ t. fails (getD free t 0 is 0)) z t (omega arith))));
+        one = all-placed log well p free last placed cl (λ (t : ℕ) (h : t ≤ transactions) c. to-true _ (λ k. not-both (→and c (→fails k)) (sym (placed .left t) ∙ none-counted (suc transactions) (takes-part transactions free) z t (omega arith))));
         none-earlier = λ v h. unfold dictionary in refl;
       })
       (e ∙ sym (append-nil p))
 
-  -- numbers that are not left start nothing
-  pub before-first : (a : ℕ) → a < 1 → Never (λ v. explains-loosely transactions log (p ++ a ∷ v))
-  before-first a h v = to-false _ (λ k. let r = goes-on log well p free last placed a v k in omega (arith, r .2))
+  -- those that are not left start nothing, nor those that are not in the list
+  pub not-left : (t : ℕ) → takes-part transactions free t ≡ false → Never (λ v. explains-loosely transactions log (p ++ t ∷ v))
+  not-left t z v = to-false _ (λ k. let r = goes-on log well p free last placed t v k in not-both (→and (r .0) (→fails (r .1))) (sym (placed .left t) ∙ z))
 
-  pub not-left : (t : ℕ) → t ≤ transactions → getD free t 0 ≡ 0 → Never (λ v. explains-loosely transactions log (p ++ t ∷ v))
-  not-left t h z v =
-      to-false _ (λ k.
-      let r = goes-on log well p free last placed t v k in
-      not-both (→and (r .0) (→fails (r .1))) (sym (placed .left .mark t (omega arith)) ∙ →not-fails (→is z)))
+  pub tried-none : {ones : List ℕ} {n : ℕ} → CommittedList log ones n → Tried log p ones n 0
+  tried-none list = record { never = λ d f v. to-false _ (λ k. let r = list .every-one d (goes-on log well p free last placed d v k .0) in f (r .0) (omega arith) (r .1) (r .2)) }
 
   -- one that is left
-  module _ (t : ℕ) (h : t ≤ transactions) (m : getD free t 0 ≡ 0 → ⊥) {table : List ℕ} (needs : Needs log table) where
+  module _ (t : ℕ) (m : takes-part transactions free t ≡ true) {table : List ℕ} (needs : Needs log table) where
     is-left : (committed log t ≡ true) × (member t p ≡ false)
-    is-left = marks→ t h (unfold marks in (→fails (→isnt m)))
+    is-left = left→ t m
+
+    range : (1 ≤ t) × (t ≤ transactions)
+    range = committed-range log well t (is-left .0)
 
     finding : (x : ℕ) → x < objects → allows (getD table (t * objects + x) 0) (getD last x 0) ≡ allows (need log t x (steps log)) (ran log x 0 p)
-    finding x k = rw (needs .entry t x (is-left .0) h k, placed .writers x k) refl
+    finding x k = rw (needs .entry t x (is-left .0) (range .1) k, placed .writers x k) refl
 
     pub not-fitting : every objects (λ x. allows (getD table (t * objects + x) 0) (getD last x 0)) ≡ false → Never (λ v. explains-loosely transactions log (p ++ t ∷ v))
     not-fitting f v = to-false _ (λ e. not-both (→every _ (λ x k. finding x k ∙ to-true _ (λ q. not-both e (never-placed log well p free last placed t (is-left .0) (is-left .1) x q v)))) f)
 
-    pub fitting : every objects (λ x. allows (getD table (t * objects + x) 0) (getD last x 0)) ≡ true → {writes : List ℕ} → Writes log writes → (last′ : List ℕ)
-        → ((x : ℕ) → x < objects → getD last′ x 0 ≡ (if fails (getD writes (t * objects + x) 0 is 0) then t else getD last x 0)) → Placed log (p ++ t ∷ []) (set free t 0) last′
-    fitting f {writes} w last′ g =
-        placed-more log well p free last placed t (is-left .0) (is-left .1) (λ x k. sym (finding x k) ∙ every→ _ f x k) (set free t 0) last′
-        (record { mark = λ a k. mark-clear (placed .left) t .mark a k ∙ one-less a })
-        (λ x k. g x k ∙ rw (w .entry t x (is-left .0) h k) refl)
+    pub fitting : every objects (λ x. allows (getD table (t * objects + x) 0) (getD last x 0)) ≡ true → {writes : List ℕ} → WriteTable log writes → transactions ≤ length free → (last′ : List ℕ)
+        → ((x : ℕ) → x < objects → getD last′ x 0 ≡ (if marked (getD writes t 0) x then t else getD last x 0)) → Placed log (p ++ t ∷ []) (set free (t - 1) 0) last′
+    fitting f {writes} w long last′ g =
+        placed-more log well p free last placed t (is-left .0) (is-left .1) (λ x k. sym (finding x k) ∙ every→ _ f x k) (set free (t - 1) 0) last′
+        (λ a. taken-away free t a long (range .0) (range .1) ∙ ap (λ (b : Bool). b and fails (a is t)) (placed .left a) ∙ one-less a)
+        (λ x k. g x k ∙ rw (w .mark t x (range .1) k) refl)
       where
         one-less : (a : ℕ) → ((committed log a and fails (member a p)) and fails (a is t)) ≡ (committed log a and fails (member a (p ++ t ∷ [])))
         one-less a = go (decide (member a p)) (decide (a is t))
@@ -355,10 +358,9 @@ module _ (log : List ℕ) (well : Well transactions log) (p free last : List ℕ
                 and-true-right _ (→fails q) ∙ and-true-right _ (→fails k)
                 ∙ sym (and-true-right _ (→fails (to-false _ (λ e. ⊎-elim (λ l. not-both l k) (λ (l : member a (t ∷ []) ≡ true). ⊎-elim (λ (z : a ≡ t). isnt→ q z) (λ (z : member a [] ≡ true). false≢true (unfold member in z)) (member→ a t [] l)) (member-either a p (t ∷ []) e)))))
 
-    pub one-fewer : suc (count (suc transactions) (λ a. fails (getD (set free t 0) a 0 is 0))) ≡ count (suc transactions) (λ a. fails (getD free a 0 is 0))
-    one-fewer =
-        ap suc (count-same (suc transactions) _ _ (λ a k. mark-clear {p = λ a. fails (getD free a 0 is 0)} {marks = free} (record { mark = λ b l. refl }) t .mark a k))
-        ∙ count-without (suc transactions) (λ a. fails (getD free a 0 is 0)) t (omega arith) (→fails (→isnt m))
+    pub one-fewer : transactions ≤ length free → suc (count (suc transactions) (takes-part transactions (set free (t - 1) 0))) ≡ count (suc transactions) (takes-part transactions free)
+    unfolding unmarked
+    one-fewer long = sym (part-less transactions [] free long t m)
 
     -- what is found behind it is found, and what is missed is missed
     pub search-found : {n : ℕ} {order : List ℕ} → ((a : ℕ) → a < t → Never (λ v. explains-loosely transactions log (p ++ a ∷ v))) → Searched log (p ++ t ∷ []) n true order → Searched log p n true order
@@ -372,12 +374,10 @@ module _ (log : List ℕ) (well : Well transactions log) (p free last : List ℕ
     search-missed (missed g) v = rw (append-assoc p (t ∷ []) v) at (g v)
 
   -- none of those left goes on
-  pub search-none : (n : ℕ) (order : List ℕ) → (count (suc transactions) (λ t. fails (getD free t 0 is 0)) ≡ 0 → ⊥) → ((a : ℕ) → a < suc transactions → Never (λ v. explains-loosely transactions log (p ++ a ∷ v))) → Searched log p n false order
-  search-none n order z f = missed (no-head (λ v. explains-loosely transactions log (p ++ v)) (one-left (decide (some (suc transactions) (λ t. fails (getD free t 0 is 0))))) heads)
+  pub search-none : {ones : List ℕ} (n : ℕ) (order : List ℕ) → (count (suc transactions) (takes-part transactions free) ≡ 0 → ⊥) → Tried log p ones n n → Searched log p n false order
+  search-none n order z tried =
+      missed (no-head (λ v. explains-loosely transactions log (p ++ v)) (one-left (decide (some (suc transactions) (takes-part transactions free)))) (λ a. tried .never a (λ (k : ℕ) (l : n ≤ k) (h : k < n) q. omega arith)))
     where
-      one-left : (some (suc transactions) (λ t. fails (getD free t 0 is 0)) ≡ true) ⊎ (some (suc transactions) (λ t. fails (getD free t 0 is 0)) ≡ false) → explains-loosely transactions log (p ++ []) ≡ false
-      one-left (inl k) = let r = some→ k in let t : ℕ = r .0 in let l : t < suc transactions = r .1 in let q = marks→ t (omega arith) (unfold marks in (r .2)) in not-all log well p free last placed t (q .0) (q .1)
+      one-left : (some (suc transactions) (takes-part transactions free) ≡ true) ⊎ (some (suc transactions) (takes-part transactions free) ≡ false) → explains-loosely transactions log (p ++ []) ≡ false
+      one-left (inl k) = let r = some→ k in let q = left→ (r .0) (r .2) in not-all log well p free last placed (r .0) (q .0) (q .1)
       one-left (inr k) = absurd (z (count-none _ _ k))
-
-      heads : (a : ℕ) (v : List ℕ) → explains-loosely transactions log (p ++ a ∷ v) ≡ false
-      heads a v = to-false _ (λ k. let r = goes-on log well p free last placed a v k in not-both k (f a (omega (arith, r .3)) v))

@@ -1,14 +1,18 @@
 -- Marks: a table that says of each number whether it passes a test.
-use mathlib.Core.Path.{_≡_, refl, sym, _∙_}
+use mathlib.Core.Path.{_≡_, sym, ap, _∙_}
 use mathlib.Core.Bool.{Bool, true, false}
 use mathlib.Core.Logic.{_⊎_, inl, inr}
-use mathlib.Core.List.{List, [], _∷_}
-use Prim.Native.Nat.{ℕ, zero, suc, _+_, _≤_, _<_}
+use mathlib.Core.List.{List, []}
+use Prim.Native.Nat.{ℕ, _+_, _-_, _≤_, _<_}
 use native.Mathlib.Omega.{arith}
 use lib.ListN.{length, getD, set, replicate, getD-replicate}
 use lib.Seq.{getD-set-same, getD-set-other}
-use Rattle.words.specs.Tests.{_is_, _and_, fails, if_then_else_, some}
-use Rattle.words.proofs.Truth.{decide, →fails, →not-fails, →is, →isnt, is→, isnt→, →some, some-skip, and-no-right, and-true-right, if-true, if-false}
+use Rattle.words.specs.Tests.{_is_, _and_, fails, some}
+use Rattle.words.proofs.Truth.{decide, →fails, →not-fails, →is, →isnt, is→, isnt→, →some, some-skip}
+use Rattle.graph.specs.Matrix.{takes-part}
+use Rattle.graph.specs.Inner.Peel.{without, unmarked as away}
+use Rattle.graph.proofs.Marks.{parts-without}
+use Rattle.verdict.specs.Limits.{transactions}
 use Rattle.verdict.specs.Inner.Marks.{Marked}
 
 -- no mark, and nothing passes
@@ -46,27 +50,7 @@ table-more f table t v h g e u k = go (decide (u is t))
     go (inl q) = let z : u ≡ t = is→ q in rw (z, getD-set-same table t v 0 h) e
     go (inr q) = let n : u ≡ t → ⊥ = isnt→ q in rw (getD-set-other table t u v 0 n) (g u (omega arith))
 
--- where no number has both of two marks, none passes both tests
-pub marked-both : {n : ℕ} {p q : ℕ → Bool} {v w : List ℕ} → Marked n p v → Marked n q w → (x : ℕ) → x < n → (fails (getD v x 0 is 0) and fails (getD w x 0 is 0)) ≡ (p x and q x)
-marked-both m k x h = rw (m .mark x h, k .mark x h) refl
-
--- one mark taken away
-pub mark-clear : {n : ℕ} {p : ℕ → Bool} {marks : List ℕ} → Marked n p marks → (t : ℕ) → Marked n (λ c. p c and fails (c is t)) (set marks t 0)
-mark-clear {n} {p} {marks} m t = record { mark = λ c h. go c h (decide (c is t)) }
-  where
-    go : (c : ℕ) → c < n → ((c is t) ≡ true) ⊎ ((c is t) ≡ false) → fails (getD (set marks t 0) c 0 is 0) ≡ (p c and fails (c is t))
-    go c h (inl e) = let z : c ≡ t = is→ e in →not-fails (→is (rw z (gone marks t))) ∙ sym (and-no-right _ (→not-fails e))
-      where
-        gone : (l : List ℕ) (i : ℕ) → getD (set l i 0) i 0 ≡ 0
-        gone [] i = refl
-        gone (a ∷ l) zero = refl
-        gone (a ∷ l) (suc i) = gone l i
-    go c h (inr e) = rw (getD-set-other marks t c 0 0 (isnt→ e)) (m .mark c h ∙ sym (and-true-right (p c) (→fails e)))
-
--- a table of ones and zeros marks what passes
-pub ones : {n : ℕ} (p : ℕ → Bool) {marks : List ℕ} → ((c : ℕ) → c < n → getD marks c 0 ≡ (if p c then 1 else 0)) → Marked n p marks
-ones {n} p {marks} f = record { mark = λ c h. go c (f c h) (decide (p c)) }
-  where
-    go : (c : ℕ) → getD marks c 0 ≡ (if p c then 1 else 0) → (p c ≡ true) ⊎ (p c ≡ false) → fails (getD marks c 0 is 0) ≡ p c
-    go c e (inl k) = →fails (→isnt (λ (z : getD marks c 0 ≡ 0). let w : getD marks c 0 ≡ 1 = e ∙ if-true 1 0 k in omega arith)) ∙ sym k
-    go c e (inr k) = →not-fails (→is (e ∙ if-false 1 0 k)) ∙ sym k
+-- where the mark of t is taken away, t takes part no more, and the others as before
+pub taken-away : (part : List ℕ) (t c : ℕ) → transactions ≤ length part → 1 ≤ t → t ≤ transactions → takes-part transactions (set part (t - 1) 0) c ≡ (takes-part transactions part c and fails (c is t))
+unfolding away without
+taken-away part t c long low high = ap (λ (f : ℕ → Bool). f c) (parts-without transactions [] part long t low high)

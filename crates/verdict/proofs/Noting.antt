@@ -3,18 +3,20 @@ use mathlib.Core.Path.{_≡_, refl, sym, _∙_}
 use mathlib.Core.Bool.{Bool, true, false}
 use mathlib.Core.Logic.{_⊎_, ⊎-elim}
 use mathlib.Core.List.{List}
-use Prim.Native.Nat.{ℕ, suc, _+_, _*_, _/_, _%_, _≤_, _<_}
+use Prim.Native.Nat.{ℕ, suc, _+_, _≤_, _<_}
 use native.Mathlib.Omega.{arith}
-use lib.ListN.{length, getD, set, replicate, length-set, length-replicate}
+use lib.ListN.{getD, set, replicate, length-set, length-replicate}
 use Rattle.words.specs.Tests.{_is_, _and_, _or_, fails, some}
-use Rattle.words.proofs.Truth.{to-false, and→, →and, and-no-left, and-no-right, →or-left, →or-right, or-no, is→, →is, →isnt}
+use Rattle.words.proofs.Truth.{→and, and-no-left, and-no-right, →or-left, →or-right, or-no, →is, →isnt}
+use Rattle.bits.specs.Word.{marked, more}
 use Rattle.verdict.specs.Limits.{transactions, objects}
-use Rattle.verdict.specs.Log.{steps, kind, tx, obj, begins, writes, commits, aborts, begun, ended, wrote}
+use Rattle.verdict.specs.Log.{steps, kind, tx, obj, begins, commits, aborts, begun, ended, wrote}
 use Rattle.verdict.specs.Refusal.{tried, open-refusal}
-use Rattle.verdict.specs.Inner.Checking.{open-by-marks, Written, Noted}
+use Rattle.verdict.specs.Inner.Checking.{open-by-marks, Noted}
 use Rattle.verdict.specs.Inner.Marks.{Marked}
-use Rattle.verdict.proofs.Loosely.{pair-row, pair-column}
+use Rattle.verdict.specs.Inner.WriteTable.{Written}
 use Rattle.verdict.proofs.Marks.{unmarked, mark-step, mark-skip}
+use Rattle.verdict.proofs.WriteMarks.{none-written, write-skip, write-more}
 use Rattle.verdict.proofs.Refused.{tried-same}
 
 -- what was read of the mark of t tells
@@ -22,43 +24,19 @@ pub by-mark : {p : ℕ → Bool} {m : List ℕ} {r v : Bool} {t u : ℕ} → Mar
 by-mark {t} m h a e q = sym (m .mark t (omega arith)) ∙ sym (rw a at e) ∙ q
 
 -- .. and of the mark of t and x
-pub wrote-marked : (log : List ℕ) (i : ℕ) (w : List ℕ) → Written log i w → (t x : ℕ) → t ≤ transactions → x < objects → fails (getD w (t * objects + x) 0 is 0) ≡ wrote log i t x
-unfolding Written
-wrote-marked log i w m t x h k = rw (pair-row t x k, pair-column t x k) at (m .mark (t * objects + x) (omega arith))
-
-pub by-pair : (log : List ℕ) (i : ℕ) (w : List ℕ) {r v : Bool} {t u x y : ℕ} → Written log i w → t ≤ transactions → x < objects → u ≡ t → y ≡ x → r ≡ fails (getD w (u * objects + y) 0 is 0) → r ≡ v → wrote log i t x ≡ v
-by-pair log i w {t} {x} m h k a b e q = sym (wrote-marked log i w m t x h k) ∙ sym (rw (a, b) at e) ∙ q
-
--- who wrote what: before the first step, and with one step more
-pub written-none : (log : List ℕ) (n : ℕ) → suc transactions * objects ≤ n → Written log 0 (replicate n 0)
-unfolding some wrote Written
-written-none log n h = unmarked n _ h (λ c. refl)
-
-module _ (log : List ℕ) (i : ℕ) (w : List ℕ) (written : Written log i w) where
-  pub written-same : (kind log i ≡ 3 → ⊥) → Written log (i + 1) w
-  unfolding wrote writes Written
-  written-same k = mark-skip (λ d j. writes log (d / objects) (d % objects) j) i written (λ d. and-no-left _ (and-no-left _ (→isnt k)))
-
-  pub written-more : kind log i ≡ 3 → obj log i < objects → tx log i * objects + obj log i < length w → Written log (i + 1) (set w (tx log i * objects + obj log i) 1)
-  unfolding wrote writes Written
-  written-more k x h =
-      mark-step (λ d j. writes log (d / objects) (d % objects) j) i written (tx log i * objects + obj log i) h
-      (→and (→and (→is k) (→is (sym (pair-row _ _ x)))) (→is (sym (pair-column _ _ x))))
-      (λ d n. to-false _ (λ q. n (whole d (is→ (and→ (and→ q .0) .1)) (is→ (and→ q .1)))))
-    where
-      whole : (d : ℕ) → tx log i ≡ d / objects → obj log i ≡ d % objects → d ≡ tx log i * objects + obj log i
-      whole d r c = omega arith
+pub by-pair : (log : List ℕ) (i : ℕ) {w : List ℕ} {r v : Bool} {t u x y : ℕ} → Written log i w → t ≤ transactions → x < objects → u ≡ t → y ≡ x → r ≡ marked (getD w u 0) y → r ≡ v → wrote log i t x ≡ v
+by-pair log i {t} {x} m h k a b e q = sym (m .mark t x h k) ∙ sym (rw (a, b) at e) ∙ q
 
 -- before the first step there is nothing to note
-pub noted-none : (log : List ℕ) (m n : ℕ) → m ≡ suc transactions → n ≡ suc transactions * objects → Noted log 0 (replicate m 0) (replicate m 0) (replicate n 0)
+pub noted-none : (log : List ℕ) (m : ℕ) → m ≡ suc transactions → Noted log 0 (replicate m 0) (replicate m 0) (replicate m 0)
 unfolding some begun ended
-noted-none log m n h k = record {
+noted-none log m h = record {
   has-begun = unmarked m _ (omega arith) (λ c. refl);
   has-ended = unmarked m _ (omega arith) (λ c. refl);
-  has-written = written-none log n (omega arith);
+  has-written = none-written log m (omega arith);
   begins-size = length-replicate m 0 ∙ h;
   ends-size = length-replicate m 0 ∙ h;
-  writes-size = length-replicate n 0 ∙ k;
+  writes-size = length-replicate m 0 ∙ h;
 }
 
 -- one step more
@@ -72,7 +50,7 @@ module _ (log : List ℕ) (i : ℕ) {b e w : List ℕ} (noted : Noted log i b e 
   no-end k l = mark-skip (λ t j. commits log t j or aborts log t j) i (noted .has-ended) (λ t. or-no _ (and-no-left _ (→isnt l)) ∙ and-no-left _ (→isnt k))
 
   no-write : (kind log i ≡ 3 → ⊥) → Written log (i + 1) w
-  no-write k = written-same log i w (noted .has-written) k
+  no-write k = write-skip log i (noted .has-written) k
 
   pub note-begin : kind log i ≡ 1 → tx log i ≤ transactions → Noted log (i + 1) (set b (tx log i) 1) e w
   unfolding begun begins
@@ -98,14 +76,14 @@ module _ (log : List ℕ) (i : ℕ) {b e w : List ℕ} (noted : Noted log i b e 
     writes-size = noted .writes-size;
   }
 
-  pub note-write : kind log i ≡ 3 → obj log i < objects → tx log i ≤ transactions → Noted log (i + 1) b e (set w (tx log i * objects + obj log i) 1)
+  pub note-write : kind log i ≡ 3 → obj log i < objects → tx log i ≤ transactions → Noted log (i + 1) b e (set w (tx log i) (more (getD w (tx log i) 0) (obj log i)))
   note-write k x h = record {
     has-begun = no-begin (λ (q : kind log i ≡ 1). omega arith);
     has-ended = no-end (λ (q : kind log i ≡ 4). omega arith) (λ (q : kind log i ≡ 5). omega arith);
-    has-written = written-more log i w (noted .has-written) k x (omega (arith, noted .writes-size));
+    has-written = write-more log i (noted .has-written) k (omega (arith, noted .writes-size));
     begins-size = noted .begins-size;
     ends-size = noted .ends-size;
-    writes-size = length-set w (tx log i * objects + obj log i) 1 ∙ noted .writes-size;
+    writes-size = length-set w (tx log i) _ ∙ noted .writes-size;
   }
 
   pub note-none : (kind log i ≡ 1 → ⊥) → (kind log i ≡ 3 → ⊥) → (kind log i ≡ 4 → ⊥) → (kind log i ≡ 5 → ⊥) → Noted log (i + 1) b e w

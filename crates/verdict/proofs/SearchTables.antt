@@ -10,12 +10,10 @@ use lib.Seq.{getD-set-same, getD-set-other}
 use Rattle.words.specs.Tests.{_is_}
 use Rattle.words.proofs.Truth.{decide, is→, isnt→}
 use Rattle.verdict.specs.Limits.{transactions, objects}
-use Rattle.verdict.specs.Log.{steps, tx, obj, src, wrote, writer}
+use Rattle.verdict.specs.Log.{steps, tx, obj, src}
 use Rattle.verdict.specs.Clean.{judged-other}
-use Rattle.verdict.specs.Inner.Checking.{Written}
-use Rattle.verdict.specs.Inner.Placing.{needing, need, Needs, Writes}
+use Rattle.verdict.specs.Inner.Placing.{needing, need, Needs}
 use Rattle.verdict.proofs.Loosely.{need-more, need-same, needs-judged, needs-none-unjudged, needs-none-other, needs-none-elsewhere}
-use Rattle.verdict.proofs.Noting.{wrote-marked}
 
 -- the table has what the first i steps need
 pub record Needed (log : List ℕ) (i : ℕ) (table : List ℕ) : Type 0 where
@@ -66,7 +64,3 @@ module _ (log : List ℕ) (i : ℕ) {table : List ℕ} (known : Needed log i tab
 -- after the last step
 pub needed-all : (log : List ℕ) {table : List ℕ} → Needed log (steps log) table → Needs log table
 needed-all log known = record { entry = λ t x c h k. known .entry t x h k }
-
-pub written-all : (log : List ℕ) (table : List ℕ) → Written log (steps log) table → Writes log table
-unfolding wrote writer
-written-all log table w = record { entry = λ t x c h k. wrote-marked log (steps log) table w t x h k }

@@ -8,44 +8,45 @@ use native.Mathlib.Omega.{arith}
 use lib.ListN.{length, getD, set, take, replicate, getD-replicate}
 use lib.Seq.{length-take-le, take-suc}
 use native.Mathlib.Numerals.{add-one}
-use Rattle.words.specs.Tests.{_is_, _below_, fails, count}
+use Rattle.words.specs.Tests.{_below_, count}
 use Rattle.words.specs.Lists.{member, all, distinct, zeros, entries}
 use Rattle.words.specs.First.{dictionary, First}
+use Rattle.graph.specs.Matrix.{takes-part}
 use Rattle.verdict.specs.Outcome.{order, none, said, members}
 use Rattle.verdict.specs.Judgement.{Holds}
 use Rattle.words.proofs.Truth.{decide, and-true-right, →fails, →below, →not-below, not-below→, count-same}
 use Rattle.verdict.specs.Limits.{transactions, most-searched}
-use Rattle.verdict.specs.Log.{committed, committed-count}
+use Rattle.verdict.specs.Log.{committed-count}
 use Rattle.verdict.specs.declared.answers.Checked.the-variants.{Passed, Refused}
 use Rattle.verdict.specs.Refusal.{log-refusal, search-refusal}
 use Rattle.verdict.specs.Clean.{is-clean}
 use Rattle.verdict.specs.Replay.{explains-loosely}
 use Rattle.verdict.specs.Exact.{Exact, exact, exact-none}
-use Rattle.verdict.specs.Inner.Marks.{Marked}
-use Rattle.verdict.specs.Inner.Placing.{ran, Placed, Searched, found, missed}
+use Rattle.verdict.specs.Inner.Marks.{Committed}
+use Rattle.verdict.specs.Inner.Placing.{ran, CommittedList, Placed, Searched, found, missed}
 use Rattle.verdict.specs.declared.answers.Answer.the-variants.{Order}
 use Rattle.verdict.proofs.Refused.{when-yes, when-no}
 use Rattle.verdict.proofs.Cleanly.{clean-cleanness}
 use Rattle.verdict.proofs.WellFormed.{refused≢passed, when→, well-formed}
 use Rattle.verdict.proofs.Counted.{committed-fit}
 
--- no more are left than the search takes
-pub few-enough : (log marks : List ℕ) → log-refusal log ≡ Passed → committed-count log ≤ most-searched → Marked (suc transactions) (committed log) marks
-    → count (suc transactions) (λ t. fails (getD marks t 0 is 0)) ≤ most-searched
-few-enough log marks well h m =
-    let e : count (suc transactions) (λ t. fails (getD marks t 0 is 0)) ≡ count (suc transactions) (committed log) = count-same (suc transactions) _ _ (m .mark) in
-    let f : count (suc transactions) (committed log) ≤ committed-count log = committed-fit log (well-formed log well) in
-    omega arith
+-- no more are left than the search takes: at first, all that committed
+module _ (log : List ℕ) {ones : List ℕ} {n : ℕ} (list : CommittedList log ones n) where
+  pub few-enough : log-refusal log ≡ Passed → committed-count log ≤ most-searched → n ≤ most-searched
+  few-enough well h = omega (arith, list .counted, committed-fit log (well-formed log well))
+
+  pub all-left : {part : List ℕ} → Committed log part → n ≡ count (suc transactions) (takes-part transactions part)
+  all-left m = list .counted ∙ sym (count-same (suc transactions) _ _ (λ t h. m .mark t))
 
 -- at first nothing is placed
-pub nothing-placed : (log marks : List ℕ) → Marked (suc transactions) (committed log) marks → Placed log [] marks (replicate 64 0)
+pub nothing-placed : (log part : List ℕ) → Committed log part → Placed log [] part (replicate 64 0)
 unfolding distinct all ran
-nothing-placed log marks m =
+nothing-placed log part m =
     record {
       different = refl;
       members = refl;
       right = λ i h j k. absurd (false≢true (unfold member in k));
-      left = record { mark = λ t h. m .mark t h ∙ sym (and-true-right _ (→fails (unfold member in refl))) };
+      left = λ t. m .mark t ∙ sym (and-true-right _ (→fails (unfold member in refl)));
       writers = λ x h. getD-replicate 64 x 0 0 h;
     }
 

@@ -1,16 +1,16 @@
 -- The snapshot verdict: what a read should have found, which writers clash, and the verdict from the lowest of both.
 use mathlib.Core.Path.{_≡_, refl, sym, ap, subst, _∙_}
 use mathlib.Core.Bool.{Bool, true, false}
-use mathlib.Core.Logic.{_⊎_, inl, inr, ⊎-elim}
+use mathlib.Core.Logic.{_⊎_, inl, inr}
 use mathlib.Core.List.{List}
 use Prim.Native.Nat.{ℕ, suc, _-_, _≤_, _<_}
 use native.Mathlib.Omega.{arith}
 use native.Mathlib.Numerals.{add-one}
-use lib.ListN.{getD, replicate}
-use Rattle.words.specs.Tests.{_is_, _below_, _and_, _or_, fails, if_then_else_, some, lowest, highest}
-use Rattle.words.proofs.Truth.{decide, not-both, to-false, and→, →and, and-true, and-no-left, and-no-right, or→, →or-left, →or-right, →is, is→, →isnt, →below, →not-below, if-true, if-false, some→, →some, none→, none-next, lowest-is, lowest-none, lowest-at, lowest-passes, lowest-bound, lowest-left, lowest-right, below-lowest, highest-yes, highest-no, highest-below, highest-none}
+use lib.ListN.{getD}
+use Rattle.words.specs.Tests.{_below_, if_then_else_, some, lowest, highest}
+use Rattle.words.proofs.Truth.{decide, not-both, to-false, and→, →and, and-no-left, and-no-right, →or-left, →or-right, or-false, →is, is→, →isnt, →below, →not-below, if-true, if-false, some→, →some, none→, →none, none-next, lowest-is, lowest-none, lowest-at, lowest-passes, lowest-bound, below-lowest, highest-yes, highest-no, highest-is, highest-none}
 use Rattle.verdict.specs.Limits.{transactions, objects}
-use Rattle.verdict.specs.Log.{steps, kind, tx, obj, begins, writes, committed, commits, writer, write-one-object, begin-step, commit-step, commits-writer}
+use Rattle.verdict.specs.Log.{steps, kind, tx, obj, begins, writes, committed, commits, writer, begin-step, commit-step, commits-writer}
 use Rattle.verdict.specs.Clean.{judged-other}
 use Rattle.verdict.specs.declared.step.Step.{Step}
 use Rattle.verdict.specs.declared.answers.Snapshot.the-variants.{Yes, Read, Write}
@@ -18,11 +18,11 @@ use Rattle.verdict.specs.declared.answers.Writer.{Writer}
 use Rattle.verdict.specs.declared.answers.Writer.the-variants.{Store, Committed}
 use Rattle.verdict.specs.Snapshot.{writer-number, snapshot-step, last-commit, last-committed, wanted, wrong-read, overlap, clash, wrong-commit, wrong-step, snapshot-fault, snapshot-verdict}
 use Rattle.verdict.specs.Inner.StepAt.{StepAt}
-use Rattle.verdict.specs.Inner.Marks.{does, FirstSteps, Marked}
+use Rattle.verdict.specs.Inner.Marks.{does, FirstSteps}
 use Rattle.verdict.specs.Inner.Clashes.{partner, FirstClash}
 use Rattle.verdict.proofs.WellFormed.{Well}
 use Rattle.verdict.proofs.JudgedReads.{other-kind}
-use Rattle.verdict.proofs.Marks.{unmarked}
+use Rattle.verdict.proofs.Versions.{share, shared}
 
 -- THE LAST COMMITTED WRITER
 module _ (log : List ℕ) (x : ℕ) where
@@ -49,7 +49,7 @@ module _ (log : List ℕ) (x : ℕ) where
     where
       go : (some b (commits-writer log x) ≡ true) ⊎ (some b (commits-writer log x) ≡ false) → last-committed log (suc b) x ≡ last-committed log b x
       go (inl k) =
-          let l : highest b (commits-writer log x) < b = highest-below b (commits-writer log x) k in
+          let l : highest b (commits-writer log x) < b = highest-is b (commits-writer log x) k .0 in
           rw (highest-no b (commits-writer log x) h k) (if-true _ _ (→below (omega arith)) ∙ sym (if-true _ _ (→below l)))
       go (inr k) =
           if-false _ _ (→not-below (omega (arith, highest-none (suc b) (commits-writer log x) (rw (add-one b) at (none-next b (commits-writer log x) k h)))))
@@ -74,11 +74,6 @@ module _ (log : List ℕ) (i : ℕ) where
   unfolding wanted snapshot-step begin-step begins does
   wanted-there step e f = f ∙ rw (e, step .tx-is, step .obj-is) refl
 
-  -- a judged read from another: s names its source, and r is the number of what it should have found
-  pub names-another : {s : Step} {r : ℕ} → StepAt log i s → judged-other log i ≡ true → r ≡ writer-number (wanted log i) → fails (s .src is r) ≡ wrong-read log i
-  unfolding wrong-read
-  names-another step j e = rw (e, step .src-is) (sym (and-true j))
-
 -- A CLASH
 module _ (log : List ℕ) (j p : ℕ) where
   pub no-commit : (kind log j ≡ 4 → ⊥) → clash log j p ≡ false
@@ -89,88 +84,86 @@ module _ (log : List ℕ) (j p : ℕ) where
   unfolding clash
   commit-of h = is→ (and→ (and→ (and→ (and→ h .0) .0) .0) .0)
 
-  -- an object that the committing transaction t writes, and a partner writes
+  -- of the committing transaction t and a partner, who both write an object
   module _ {t : ℕ} (committing : t ≡ tx log j) where
-    pub shared-object : (x : ℕ) → kind log j ≡ 4 → (writer log x t and (partner log j t p and writer log x p)) ≡ true → clash log j p ≡ true
-    unfolding clash partner write-one-object writer writes
-    shared-object x k both =
-        let b = and→ (rw committing at both) in
-        let q = and→ (b .1) in
-        let r = and→ (q .0) in
+    pub shared-object : (x : ℕ) → kind log j ≡ 4 → partner log j t p ≡ true → writer log x t ≡ true → writer log x p ≡ true → clash log j p ≡ true
+    unfolding clash partner
+    shared-object x k q m o =
+        let r = and→ (rw committing at q) in
         let s = and→ (r .0) in
-        let o = some→ (b .0) in
-        let e : obj log (o .0) ≡ x = is→ (and→ (o .2) .1) in
-        →and (→and (→and (→and (→is k) (s .0)) (s .1)) (r .1)) (→some _ (o .0) (o .1) (→and (and→ (o .2) .0) (rw e (q .1))))
+        →and (→and (→and (→and (→is k) (s .0)) (s .1)) (r .1)) (share log x (tx log j) p (rw committing at m) o)
 
-    pub no-shared-object : {most : ℕ} → Well most log → ((x : ℕ) → x < objects → (writer log x t and (partner log j t p and writer log x p)) ≡ false) → clash log j p ≡ false
-    unfolding clash partner write-one-object
-    no-shared-object well f = to-false _ (λ h.
-        let r = and→ h in
+    pub is-partner : clash log j p ≡ true → partner log j t p ≡ true
+    unfolding clash partner
+    is-partner h =
+        let r = and→ (and→ h .0) in
         let s = and→ (r .0) in
-        let u = and→ (s .0) in
-        let v = and→ (u .0) in
-        let o = some→ (r .1) in
-        let i : ℕ = o .0 in
-        let w = and→ (o .2) in
-        let b : obj log i < objects = well .object i (o .1) (inr (is→ (and→ (w .0) .0))) in
-        not-both (→and (writes-it i (o .1) (w .0)) (→and (→and (→and (v .1) (u .1)) (s .1)) (w .1))) (rw committing at (f (obj log i) b)))
-      where
-        writes-it : (i : ℕ) → i < steps log → (kind log i is 3 and tx log i is tx log j) ≡ true → writer log (obj log i) (tx log j) ≡ true
-        writes-it i h e = unfold writer writes in (→some _ i h (→and e (→is refl)))
+        rw committing (→and (→and (and→ (s .0) .1) (s .1)) (r .1))
 
--- the search over commits, partners and objects
-module _ (log : List ℕ) (j : ℕ) (none-earlier : some j (wrong-commit transactions log) ≡ false) where
-  pub clash-found : (p : ℕ) → j < steps log → p ≤ transactions → some p (clash log j) ≡ false → clash log j p ≡ true → FirstClash log j p
+    pub not-partner : partner log j t p ≡ false → clash log j p ≡ false
+    not-partner q = to-false _ (λ h. not-both (is-partner h) q)
+
+    pub common-object : {most : ℕ} → Well most log → clash log j p ≡ true → (x : ℕ) × (x < objects) × (writer log x t ≡ true) × (writer log x p ≡ true)
+    unfolding clash writer writes
+    common-object well h =
+        let o = shared log (tx log j) p (and→ h .1) in
+        let w = some→ (o .1) in
+        let a = and→ (w .2) in
+        let e : obj log (w .0) ≡ o .0 = is→ (a .1) in
+        (o .0, rw e at (well .object (w .0) (w .1) (inr (is→ (and→ (a .0) .0)))), rw committing (o .1), o .2)
+
+-- the search over commits, partners and objects, below step k
+module _ (log : List ℕ) (k j : ℕ) (none-earlier : some j (wrong-commit transactions log) ≡ false) where
+  pub clash-found : (p : ℕ) → j < k → p ≤ transactions → some p (clash log j) ≡ false → clash log j p ≡ true → FirstClash log k j p
   unfolding wrong-commit
-  clash-found p h k n c =
+  clash-found p h l n c =
       record {
         first = sym (lowest-at (wrong-commit transactions log) j h (→some _ p (omega arith) c) (none→ _ none-earlier));
         other = λ _. sym (lowest-at (clash log j) p (omega arith) c (none→ _ n));
       }
 
-  pub no-clash : (p : ℕ) → j ≡ steps log → FirstClash log j p
+  pub no-clash : (p : ℕ) → j ≡ k → FirstClash log k j p
   no-clash p e =
       record {
         first = e ∙ sym (lowest-none (wrong-commit transactions log) (rw e at none-earlier));
-        other = λ (h : j < steps log). absurd (omega arith);
+        other = λ (h : j < k). absurd (omega arith);
       }
 
--- A PARTNER, by the tables of begins and commits
-module _ (log : List ℕ) (j t p : ℕ) {first last : List ℕ} (b : FirstSteps log 1 first) (c : FirstSteps log 4 last) (t-in : t ≤ transactions) (p-in : p ≤ transactions) where
-  commit-at : (u : ℕ) → u ≤ transactions → getD last u 0 ≡ commit-step log u
-  unfolding commit-step commits does
-  commit-at u h = c .entry u h
+-- THE STEPS OF A TRANSACTION
+pub begins-within : (log : List ℕ) (t : ℕ) → snapshot-step log t ≤ steps log
+unfolding snapshot-step begin-step
+begins-within log t = lowest-bound {n = steps log} (begins log t)
 
-  begin-at : (u : ℕ) → u ≤ transactions → getD first u 0 ≡ snapshot-step log u
+-- by the tables of begins and commits
+module _ (log : List ℕ) {table : List ℕ} (t : ℕ) (h : t ≤ transactions) where
+  pub begin-at : FirstSteps log 1 table → getD table t 0 ≡ snapshot-step log t
   unfolding snapshot-step begin-step begins does
-  begin-at u h = b .entry u h
+  begin-at b = b .entry t h
 
+  pub commit-at : FirstSteps log 4 table → getD table t 0 ≡ commit-step log t
+  unfolding commit-step commits does
+  commit-at c = c .entry t h
+
+-- A PARTNER, by the same tables
+module _ (log : List ℕ) (j t p : ℕ) {first last : List ℕ} (b : FirstSteps log 1 first) (c : FirstSteps log 4 last) (t-in : t ≤ transactions) (p-in : p ≤ transactions) where
   pub not-yet : j ≤ getD last p 0 → partner log j t p ≡ false
   unfolding partner
-  not-yet h = and-no-left _ (and-no-right _ (→not-below (rw (commit-at p p-in) at h)))
+  not-yet h = and-no-left _ (and-no-right _ (→not-below (rw (commit-at log p p-in c) at h)))
 
   pub long-before : getD last p 0 ≤ getD first t 0 → partner log j t p ≡ false
   unfolding partner overlap
-  long-before h = and-no-right _ (and-no-left _ (→not-below (rw (commit-at p p-in, begin-at t t-in) at h)))
+  long-before h = and-no-right _ (and-no-left _ (→not-below (rw (commit-at log p p-in c, begin-at log t t-in b) at h)))
 
   pub long-after : getD last t 0 ≤ getD first p 0 → partner log j t p ≡ false
   unfolding partner overlap
-  long-after h = and-no-right _ (and-no-right _ (→not-below (rw (commit-at t t-in, begin-at p p-in) at h)))
+  long-after h = and-no-right _ (and-no-right _ (→not-below (rw (commit-at log t t-in c, begin-at log p p-in b) at h)))
 
   pub overlapping : j ≤ steps log → getD last p 0 < j → getD first t 0 < getD last p 0 → getD first p 0 < getD last t 0 → partner log j t p ≡ true
   unfolding partner overlap committed commit-step
   overlapping n h k l =
-      let e : getD last p 0 ≡ lowest (steps log) (commits log p) = commit-at p p-in in
-      →and (→and (lowest-passes _ (omega arith)) (→below (rw (commit-at p p-in) at h)))
-      (→and (→below (rw (commit-at p p-in, begin-at t t-in) at k)) (→below (rw (commit-at t t-in, begin-at p p-in) at l)))
-
--- the marks of a partner, and of anyone else
-module _ (log : List ℕ) (j t p : ℕ) where
-  pub no-partner : partner log j t p ≡ false → Marked objects (λ x. partner log j t p and writer log x p) (replicate 64 0)
-  no-partner h = unmarked 64 _ (omega arith) (λ x. and-no-left _ h)
-
-  pub a-partner : {marks : List ℕ} → partner log j t p ≡ true → Marked objects (λ x. writer log x p) marks → Marked objects (λ x. partner log j t p and writer log x p) marks
-  a-partner h m = record { mark = λ x k. m .mark x k ∙ sym (and-true h) }
+      let e : getD last p 0 ≡ lowest (steps log) (commits log p) = commit-at log p p-in c in
+      →and (→and (lowest-passes _ (omega arith)) (→below (rw (commit-at log p p-in c) at h)))
+      (→and (→below (rw (commit-at log p p-in c, begin-at log t t-in b) at k)) (→below (rw (commit-at log t t-in c, begin-at log p p-in b) at l)))
 
 -- THE VERDICT
 module _ (log : List ℕ) where
@@ -178,33 +171,34 @@ module _ (log : List ℕ) where
   unfolding wrong-commit
   wrong-commit-kind j h = let r = some→ h in commit-of log j (r .0) (r .2)
 
-  module _ (k j p : ℕ) (read : k ≡ lowest (steps log) (wrong-read log)) (found : FirstClash log j p) where
-    pub read-first : {w : Writer} → k < j → w ≡ wanted log k → snapshot-verdict transactions log ≡ Read k w
-    unfolding snapshot-verdict wrong-step snapshot-fault
-    read-first h v =
-        let b : lowest (steps log) (wrong-commit transactions log) ≤ steps log = lowest-bound (wrong-commit transactions log) in
-        let f : j ≡ lowest (steps log) (wrong-commit transactions log) = found .first in
-        let z : lowest (steps log) (wrong-read log) < lowest (steps log) (wrong-commit transactions log) = omega arith in
-        let e : lowest (steps log) (λ i. wrong-read log i or wrong-commit transactions log i) ≡ k = lowest-left (steps log) _ _ z ∙ sym read in
-        let w : wrong-read log k ≡ true = rw read (lowest-is {n = steps log} (wrong-read log) (lowest-passes (wrong-read log) (omega arith)) .1) in
-        if-true _ _ (→some _ k (omega arith) (→or-left _ w)) ∙ ap (snapshot-fault transactions log) e ∙ if-true _ _ w ∙ ap (Read k) (sym v)
+  -- k is the lowest wrong read, and j the lowest wrong commit below it
+  module _ (k j p : ℕ) (read : k ≡ lowest (steps log) (wrong-read log)) (found : FirstClash log k j p) where
+    none-yet : (i : ℕ) → i < k → i < j → wrong-step transactions log i ≡ false
+    unfolding wrong-step
+    none-yet i h l =
+        let f : j ≡ lowest k (wrong-commit transactions log) = found .first in
+        or-false (below-lowest (steps log) (wrong-read log) i (omega arith)) ∙ below-lowest k (wrong-commit transactions log) i (omega arith)
 
-    pub write-first : j ≤ k → j < steps log → snapshot-verdict transactions log ≡ Write j p
+    pub read-first : {w : Writer} → k ≤ j → k < steps log → w ≡ wanted log k → snapshot-verdict transactions log ≡ Read k w
     unfolding snapshot-verdict wrong-step snapshot-fault
-    write-first h n =
-        let f : j ≡ lowest (steps log) (wrong-commit transactions log) = found .first in
-        let z : lowest (steps log) (wrong-commit transactions log) ≤ lowest (steps log) (wrong-read log) = omega arith in
-        let e : lowest (steps log) (λ i. wrong-read log i or wrong-commit transactions log i) ≡ j = lowest-right (steps log) _ _ z ∙ sym f in
-        let w : wrong-commit transactions log j ≡ true = rw f (lowest-is {n = steps log} (wrong-commit transactions log) (lowest-passes (wrong-commit transactions log) (omega arith)) .1) in
+    read-first h n v =
+        let w : wrong-read log k ≡ true = rw read (lowest-is {n = steps log} (wrong-read log) (lowest-passes (wrong-read log) (omega arith)) .1) in
+        let s : wrong-step transactions log k ≡ true = →or-left _ w in
+        let e : lowest (steps log) (wrong-step transactions log) ≡ k = lowest-at (wrong-step transactions log) k n s (λ (i : ℕ) (l : i < k). none-yet i l (omega arith)) in
+        if-true _ _ (→some _ k n s) ∙ ap (snapshot-fault transactions log) e ∙ if-true _ _ w ∙ ap (Read k) (sym v)
+
+    pub write-first : j < k → snapshot-verdict transactions log ≡ Write j p
+    unfolding snapshot-verdict wrong-step snapshot-fault
+    write-first h =
+        let f : j ≡ lowest k (wrong-commit transactions log) = found .first in
+        let n : j < steps log = omega (arith, lowest-bound {n = steps log} (wrong-read log)) in
+        let w : wrong-commit transactions log j ≡ true = rw f (lowest-is {n = k} (wrong-commit transactions log) (lowest-passes (wrong-commit transactions log) (omega arith)) .1) in
+        let s : wrong-step transactions log j ≡ true = →or-right _ w in
         let c : kind log j ≡ 4 = wrong-commit-kind j w in
         let g : wrong-read log j ≡ false = not-wrong log j (other-kind log j (λ (q : kind log j ≡ 2). omega arith)) in
-        if-true _ _ (→some _ j n (→or-right _ w)) ∙ ap (snapshot-fault transactions log) e ∙ if-false _ _ g ∙ ap (Write j) (sym (found .other n))
+        let e : lowest (steps log) (wrong-step transactions log) ≡ j = lowest-at (wrong-step transactions log) j n s (λ (i : ℕ) (l : i < j). none-yet i (omega arith) l) in
+        if-true _ _ (→some _ j n s) ∙ ap (snapshot-fault transactions log) e ∙ if-false _ _ g ∙ ap (Write j) (sym (found .other h))
 
-    pub all-right : j ≤ k → steps log ≤ j → snapshot-verdict transactions log ≡ Yes
-    unfolding snapshot-verdict wrong-step
-    all-right h n =
-        let f : j ≡ lowest (steps log) (wrong-commit transactions log) = found .first in
-        if-false _ _ (to-false _ (λ q.
-        let r = some→ q in
-        ⊎-elim (λ (a : wrong-read log (r .0) ≡ true). not-both a (below-lowest (steps log) (wrong-read log) (r .0) (omega (arith, r .1))))
-        (λ (a : wrong-commit transactions log (r .0) ≡ true). not-both a (below-lowest (steps log) (wrong-commit transactions log) (r .0) (omega (arith, r .1)))) (or→ (r .2))))
+    pub all-right : k ≤ j → steps log ≤ k → snapshot-verdict transactions log ≡ Yes
+    unfolding snapshot-verdict
+    all-right h n = if-false _ _ (→none _ (λ (i : ℕ) (l : i < steps log). none-yet i (omega arith) (omega arith)))

@@ -7,55 +7,24 @@ use Prim.Native.Nat.{ℕ, suc, _≤_, _<_}
 use native.Mathlib.Omega.{arith}
 use Rattle.words.specs.Tests.{_is_, _below_, _and_, _or_, some}
 use Rattle.graph.specs.Matrix.{takes-part, joined}
-use Rattle.words.proofs.Truth.{decide, same-test, and→, →and, and-true, and-no-left, and-no-right, or→, →or-left, →or-right, or-no, or-false, →fails, fails→, is→, isnt→, →is, →isnt, →below, below→, →not-below, →upto, →not-upto, if-true, if-false, some→, →some, →none, none→, none-below, lowest-at, lowest-none}
+use Rattle.words.proofs.Truth.{decide, same-test, and→, →and, and-true, and-no-left, and-no-right, or→, →or-left, →or-right, or-no, or-false, →fails, fails→, is→, isnt→, →is, →isnt, below→, if-true, if-false, some→, →some}
 use Rattle.verdict.specs.Limits.{transactions}
-use Rattle.verdict.specs.Log.{steps, kind, tx, obj, src, reads, committed, writer, commits-writer}
+use Rattle.verdict.specs.Log.{steps, kind, tx, obj, src, reads, committed}
 use Rattle.verdict.specs.declared.answers.Cleanness.the-variants.{Yes}
 use Rattle.verdict.specs.Clean.{cleanness, judged, is-clean}
 use Rattle.verdict.specs.Judgement.{Holds}
-use Rattle.verdict.specs.Version.{versions-from, next-commit, next-version, version-edge, Version, version}
+use Rattle.verdict.specs.Version.{next-commit, next-version, version-edge, Version, version}
 use Rattle.verdict.specs.declared.answers.Witnessed.{Witnessed}
 use Rattle.verdict.specs.Inner.VersionEdges.{from-writer, from-source, from-reader, plain-version, next-writer, write-edges, read-edges, version-step, versions-until}
 use Rattle.verdict.specs.Inner.Edges.{one-edge, with-edge, Drawn, Showing}
 use Rattle.verdict.specs.Inner.Marks.{Committed}
 use Rattle.verdict.proofs.WellFormed.{Well}
 use Rattle.verdict.proofs.Cleanly.{cleanness-clean}
-use Rattle.verdict.proofs.Versions.{candidate}
 use Rattle.verdict.proofs.Dependencies.{plain-version-edge, version-leaves, version-enters}
 use Rattle.verdict.proofs.Matrices.{Kept, one-edge→, →one-edge, same-edges, edge-more, edges-more, Between, shown-of}
 
 -- THE WRITER OF THE NEXT VERSION
 module _ (log : List ℕ) (x v : ℕ) where
-  -- the steps before those that may commit it
-  pub none-before : some (versions-from log v) (candidate log x v) ≡ false
-  unfolding candidate
-  none-before = →none _ (λ (j : ℕ) (h : j < versions-from log v). and-no-left _ (→not-upto h))
-
-  pub commits-next : (j : ℕ) → versions-from log v ≤ j → kind log j ≡ 4 → writer log x (tx log j) ≡ true → candidate log x v j ≡ true
-  unfolding candidate commits-writer
-  commits-next j h k w = →and (→upto h) (→and (→is k) w)
-
-  pub no-commit : (j : ℕ) → (kind log j ≡ 4 → ⊥) → candidate log x v j ≡ false
-  unfolding candidate commits-writer
-  no-commit j k = and-no-right _ (and-no-left _ (→isnt k))
-
-  pub no-writer : (j : ℕ) → writer log x (tx log j) ≡ false → candidate log x v j ≡ false
-  unfolding candidate commits-writer
-  no-writer j w = and-no-right _ (and-no-right _ w)
-
-  -- the first that commits one is the next; without one v's is the last
-  pub next-found : (j : ℕ) → j < steps log → candidate log x v j ≡ true → some j (candidate log x v) ≡ false → tx log j ≡ next-writer log x v
-  unfolding candidate next-writer next-commit
-  next-found j h c n =
-      let e : next-commit log x v ≡ j = lowest-at (candidate log x v) j h c (none→ (candidate log x v) n) in
-      rw e (sym (if-true _ _ (→below h)))
-
-  pub next-none : (j : ℕ) → steps log ≤ j → some j (candidate log x v) ≡ false → 0 ≡ next-writer log x v
-  unfolding candidate next-writer next-commit
-  next-none j h n =
-      let e : next-commit log x v ≡ steps log = lowest-none (candidate log x v) (none-below {i = j} (steps log) (candidate log x v) n h) in
-      rw e (sym (if-false _ _ (→not-below (omega arith))))
-
   -- what the writer of the next version says of the versions
   pub next-version→ : (u : ℕ) → next-version log x v u ≡ true → next-writer log x v ≡ u
   unfolding next-version next-writer

@@ -1,7 +1,7 @@
 -- What is known of a log that no number turns away.
-use mathlib.Core.Path.{_≡_, refl, sym, subst}
+use mathlib.Core.Path.{_≡_, refl, sym, subst, _∙_}
 use mathlib.Core.Bool.{Bool, true, false}
-use mathlib.Core.Logic.{_⊎_, inl, inr}
+use mathlib.Core.Logic.{_⊎_, inl, inr, ⊎-elim}
 use mathlib.Core.List.{List}
 use Prim.Native.Nat.{ℕ, zero, suc, _*_, _%_, _≤_, _<_}
 use native.Mathlib.Omega.{arith}
@@ -9,12 +9,12 @@ use native.Mathlib.Nat.{not-suc-le-zero}
 use lib.ListN.{length}
 use Rattle.words.specs.Tests.{_is_, _below_, _upto_, _and_, _or_, fails}
 use Rattle.verdict.specs.Limits.{transactions, objects, most-steps}
-use Rattle.verdict.specs.Log.{steps, kind, tx, obj, src, commits, writer, begun, ended, wrote}
+use Rattle.verdict.specs.Log.{steps, kind, tx, obj, src, commits, aborts, writer, begun, ended, wrote}
 use Rattle.verdict.specs.declared.answers.Checked.{Checked}
 use Rattle.verdict.specs.declared.answers.Checked.the-variants.{Passed, Refused}
-use Rattle.verdict.specs.Refusal.{_at_when_, _else-try_, tried, object-allowed, source-allowed, range-refusal, life-refusal, source-refusal, step-refusal, log-refusal}
+use Rattle.verdict.specs.Refusal.{_at_when_, _else-try_, tried, object-allowed, source-allowed, range-refusal, life-refusal, source-refusal, step-refusal, open-refusal, log-refusal}
 use Rattle.verdict.specs.Inner.Checking.{InRange}
-use Rattle.words.proofs.Truth.{decide, not-both, to-true, and→, →and, →or-left, →or-right, →fails, not-fails→, is→, →is, →isnt, upto→, below→, not-below→, some→, →some, if-true, if-false}
+use Rattle.words.proofs.Truth.{decide, not-both, to-true, and→, →and, or→, →or-left, →or-right, →fails, not-fails→, is→, →is, →isnt, upto→, below→, not-below→, some→, →some, if-true, if-false}
 
 Has-passed : Checked → Type 0
 Has-passed Passed = Unit {0}
@@ -129,14 +129,32 @@ module _ (log : List ℕ) (well : log-refusal log ≡ Passed) where
         let r = some→ (to-true (wrote log i (src log i) (obj log i)) (λ q. not-both (→and (→and (→is k) (→fails (→isnt n))) (→fails q)) test-9)) in
         →some _ (r .0) (omega (arith, r .1)) (r .2)
 
-  -- a transaction ends once, so it commits once
+  -- a transaction ends once
+  pub ends-once : (t i j : ℕ) → i < j → j < steps log → (commits log t i or aborts log t i) ≡ true → (commits log t j or aborts log t j) ≡ true → ⊥
+  unfolding commits aborts ended
+  ends-once t i j h k p q = ⊎-elim (λ (c : commits log t j ≡ true). again 4 (and→ c .0) (and→ c .1) (λ (z : 4 ≡ 1). omega arith)) (λ (a : aborts log t j ≡ true). again 5 (and→ a .0) (and→ a .1) (λ (z : 5 ≡ 1). omega arith)) (or→ q)
+    where
+      again : (n : ℕ) → (kind log j is n) ≡ true → (tx log j is t) ≡ true → (n ≡ 1 → ⊥) → ⊥
+      again n a e f =
+          let g : ended log j (tx log j) ≡ true = →some _ i h (rw (is→ {m = tx log j} {n = t} e) p) in
+          not-both (→and (→fails (→isnt (λ z. f (sym (is→ {m = kind log j} {n = n} a) ∙ z)))) (→or-right _ g)) (test-8 j k)
+
   commits-once : (t i j : ℕ) → i < j → j < steps log → commits log t i ≡ true → commits log t j ≡ true → ⊥
-  unfolding commits ended
-  commits-once t i j h k p q =
-      let e : tx log j ≡ t = is→ (and→ q .1) in
-      let f : kind log j ≡ 4 = is→ (and→ q .0) in
-      let g : ended log j (tx log j) ≡ true = →some _ i h (→or-left _ (rw e p)) in
-      not-both (→and (→fails (→isnt (λ (z : kind log j ≡ 1). omega arith))) (→or-right _ g)) (test-8 j k)
+  commits-once t i j h k p q = ends-once t i j h k (→or-left _ p) (→or-left _ q)
+
+  -- who begins ends
+  pub ends : (t : ℕ) → t ≤ transactions → begun log (steps log) t ≡ true → ended log (steps log) t ≡ true
+  unfolding log-refusal open-refusal
+  ends t h g =
+      let o = when→ 11 t _ (tried→ _ (else-try→ (else-try→ (else-try→ well .1) .1) .1) t (omega arith)) in
+      to-true _ (λ n. not-both (→and g (→fails n)) o)
+
+  -- a step that does not begin is one of a transaction that has begun
+  pub has-begun : (i : ℕ) → i < steps log → (kind log i ≡ 1 → ⊥) → begun log (steps log) (tx log i) ≡ true
+  unfolding begun
+  has-begun i h n =
+      let r = some→ (to-true (begun log i (tx log i)) (λ q. not-both (→and (→fails (→isnt n)) (→or-left _ (→fails q))) (test-8 i h))) in
+      →some _ (r .0) (omega (arith, r .1)) (r .2)
 
 -- What the theorems need of a log, with transactions at most `most`.
 pub record Well (most : ℕ) (log : List ℕ) : Type 0 where

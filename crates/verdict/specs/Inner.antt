@@ -1,12 +1,14 @@
 -- What the private functions promise each other. No public contract cites these.
 pub mod StepAt
 pub mod Marks
+pub mod WriteTable
 pub mod Checking
 pub mod LastWrites
 pub mod Clashes
 pub mod Edges
 pub mod ConflictEdges
 pub mod VersionEdges
+pub mod NextWriters
 pub mod Leaving
 pub mod Following
 pub mod Placing

@@ -7,15 +7,19 @@ use crate::answers::Judgement;
 use crate::answers::Snapshot;
 use crate::cleanness::judge_clean;
 use crate::conflict_graph::judge_conflict;
+use crate::edges::committed_ones;
 use crate::exactness::judge_exact;
 use crate::leaving::exact_without_members;
 use crate::leaving::without_members;
-use crate::refusal::check;
+use crate::limits::Transaction;
+use crate::refusal::examine;
 use crate::snapshots::judge_snapshot;
+use crate::tables::next_writers;
 use crate::version_graph::judge_version;
 ghost use mathlib.Core.Path.{_≡_};
 ghost use Rattle.verdict.specs.Refusal.{log-refusal};
 ghost use Rattle.verdict.specs.Judgement.{refused-alone, Judges, JudgeAnswer};
+ghost use Rattle.verdict.specs.Inner.WriteTable.{WriteTable};
 ghost use Rattle.verdict.specs.declared.answers.Checked.the-variants.{Passed};
 
 // A refusal alone.
@@ -32,19 +36,22 @@ fn refused_alone(number: u16, place: usize) -> Judgement
     }
 }
 
-// The five verdicts of a well-formed log.
-fn judge_all(log: &[u16]) -> Judgement
-    requires { ⌜ log-refusal (now log) ≡ Passed ⌝ }
+// The five verdicts of a well-formed log, by the marks of what each transaction writes.
+fn judge_all(log: &[u16], writes: &[u64; Transaction::TABLE]) -> Judgement
+    requires { ⌜ (log-refusal (now log) ≡ Passed) × WriteTable (now log) (now writes) ⌝ }
     ensures { λ r. ⌜ Judges (now (log .entry)) r ⌝ }
 {
-    let clean = judge_clean(log);
+    let part = committed_ones(log);
+    let mut next = [0u8; Transaction::PAIRS];
+    next_writers(log, writes, &mut next);
+    let clean = judge_clean(log, &part);
     Judgement {
         checked: Checked::Passed,
         clean,
-        snapshot: judge_snapshot(log),
-        conflict: judge_conflict(log),
-        version: judge_version(log, clean),
-        exact: judge_exact(log, clean),
+        snapshot: judge_snapshot(log, writes, &next),
+        conflict: judge_conflict(log, part),
+        version: judge_version(log, clean, part, &next),
+        exact: judge_exact(log, clean, part, writes),
     }
 }
 
@@ -52,9 +59,11 @@ fn judge_all(log: &[u16]) -> Judgement
 pub fn judge(log: &[u16]) -> Judgement
     ensures { λ r. ⌜ JudgeAnswer (now (log .entry)) r ⌝ }
 {
-    let checked = check(log);
+    let examined = examine(log);
+    let checked = examined.checked;
+    let writes = examined.writes;
     match checked {
         Checked::Refused(number, place) => refused_alone(number, place),
-        Checked::Passed => judge_all(log),
+        Checked::Passed => judge_all(log, &writes),
     }
 }

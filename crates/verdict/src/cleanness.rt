@@ -12,7 +12,6 @@ use crate::refusal::admit;
 use crate::step::Step;
 use crate::step::step_at;
 use crate::walk::index;
-use crate::walk::seen;
 ghost use mathlib.Core.Path.{_≡_};
 ghost use Prim.Native.Nat.{_≤_, _<_, _+_, _*_};
 ghost use lib.ListN.{length, getD};
@@ -91,17 +90,16 @@ fn is_faulty(
     false
 }
 
-// The lowest faulty step, or the number of steps where there is none.
-fn first_fault(log: &[u16]) -> usize
-    requires { ⌜ log-refusal (now log) ≡ Passed ⌝ }
+// The lowest faulty step, or the number of steps where there is none, by who committed.
+fn first_fault(log: &[u16], part: &[u8; Transaction::COUNT]) -> usize
+    requires { ⌜ (log-refusal (now log) ≡ Passed) × Committed (now log) (now part) ⌝ }
     ensures { λ r. ⌜ r ≡ lowest (steps (now (log .entry))) (faulty-read (now (log .entry))) ⌝ }
 {
-    let part = committed_ones(log);
     let last = last_writes(log);
     let n = log.len() / 4;
     let mut i = 0;
     while i < n {
-        if is_faulty(log, i, &part, &last) {
+        if is_faulty(log, i, part, &last) {
             return i;
         }
         i += 1;
@@ -109,21 +107,21 @@ fn first_fault(log: &[u16]) -> usize
     i
 }
 
-// The clean verdict of a well-formed log.
-pub(crate) fn judge_clean(log: &[u16]) -> Cleanness
-    requires { ⌜ log-refusal (now log) ≡ Passed ⌝ }
+// The clean verdict of a well-formed log, by who committed.
+pub(crate) fn judge_clean(log: &[u16], part: &[u8; Transaction::COUNT]) -> Cleanness
+    requires { ⌜ (log-refusal (now log) ≡ Passed) × Committed (now log) (now part) ⌝ }
     ensures { λ r. ⌜ r ≡ cleanness (now (log .entry)) ⌝ }
 {
     let n = log.len() / 4;
-    let k = first_fault(log);
+    let k = first_fault(log, part);
     if n <= k {
         return Cleanness::Yes;
     }
     let step = step_at(log, k);
-    if seen(log, n, Step::ABORT, step.src) {
-        return Cleanness::Unclean(Fault::Aborted(k));
+    if takes_part(part, step.src) {
+        return Cleanness::Unclean(Fault::Unfinal(k));
     }
-    Cleanness::Unclean(Fault::Unfinal(k))
+    Cleanness::Unclean(Fault::Aborted(k))
 }
 
 // The clean verdict: yes, or the lowest faulty step with its fault.
@@ -131,11 +129,13 @@ pub fn clean(log: &[u16], work: &mut [u8]) -> CleanAnswer
     ensures { λ r. ⌜ CleanCall (now (log .entry)) (now (work .entry)) r (now (work .exit)) ⌝ }
 {
     let admitted = admit(log, work.len());
-    match admitted {
+    let checked = admitted.checked;
+    match checked {
         Checked::Refused(number, place) => CleanAnswer::Refused(number, place),
         Checked::Passed => {
             clear(work);
-            CleanAnswer::Judged(judge_clean(log))
+            let part = committed_ones(log);
+            CleanAnswer::Judged(judge_clean(log, &part))
         }
     }
 }

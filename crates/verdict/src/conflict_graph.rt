@@ -79,12 +79,11 @@ pub(crate) fn draw(log: &[u16], matrix: &mut [u8], part: &[u8; Transaction::COUN
     }
 }
 
-// The conflict verdict of a well-formed log.
-pub(crate) fn judge_conflict(log: &[u16]) -> Witnessed
-    requires { ⌜ log-refusal (now log) ≡ Passed ⌝ }
+// The conflict verdict of a well-formed log, by who committed.
+pub(crate) fn judge_conflict(log: &[u16], part: [u8; Transaction::COUNT]) -> Witnessed
+    requires { ⌜ (log-refusal (now log) ≡ Passed) × Committed (now log) part ⌝ }
     ensures { λ r. ⌜ Holds (Conflict transactions (now (log .entry))) r ⌝ }
 {
-    let part = committed_ones(log);
     let mut matrix = [0u8; graph::MATRIX];
     draw(log, &mut matrix, &part);
     show(&matrix, part)
@@ -95,8 +94,9 @@ pub fn conflict(log: &[u16], work: &mut [u8], witness: &mut [u16]) -> WitnessAns
     ensures { λ r. ⌜ ConflictCall (now (log .entry)) (now (work .entry)) (now (witness .entry)) r (now (work .exit)) (now (witness .exit)) ⌝ }
 {
     let admitted = admit_witness(log, work.len(), witness.len());
-    match admitted {
+    let checked = admitted.checked;
+    match checked {
         Checked::Refused(number, place) => WitnessAnswer::Refused(number, place),
-        Checked::Passed => leave(work, witness, judge_conflict(log)),
+        Checked::Passed => leave(work, witness, judge_conflict(log, committed_ones(log))),
     }
 }

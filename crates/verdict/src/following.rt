@@ -10,7 +10,10 @@ use crate::leaving::leave;
 use crate::leaving::without_members;
 use crate::limits::Log;
 use crate::limits::Transaction;
-use crate::refusal::check;
+use crate::refusal::Examined;
+use crate::refusal::examine;
+use crate::refusal::turned_away;
+use crate::tables::next_writers;
 use crate::version_graph::draw;
 ghost use mathlib.Core.Path.{_≡_};
 ghost use mathlib.Core.Bool.{true};
@@ -24,9 +27,12 @@ ghost use Rattle.verdict.specs.Refusal.{_at_when_, _else-try_, log-refus
 ghost use Rattle.verdict.specs.Clean.{is-clean};
 ghost use Rattle.verdict.specs.Version.{version-edge};
 ghost use Rattle.verdict.specs.Call.{NextCall};
+ghost use Rattle.verdict.specs.Inner.Checking.{Examines};
 ghost use Rattle.verdict.specs.Inner.Marks.{Committed};
 ghost use Rattle.verdict.specs.Inner.Edges.{Drawn};
 ghost use Rattle.verdict.specs.Inner.Following.{Split, Brings, Comes};
+ghost use Rattle.verdict.specs.Inner.NextWriters.{NextWriters};
+ghost use Rattle.verdict.specs.Inner.WriteTable.{WriteTable};
 ghost use Rattle.verdict.specs.declared.answers.Checked.the-variants.{Passed, Refused};
 
 // What comes after an order: 14 where it is not on the list, or the next order, or none.
@@ -118,36 +124,52 @@ fn follow(
     }
 }
 
-// What comes after an order that is handed in with a well-formed log.
-fn after_order(log: &[u16], order: &[u16]) -> Following
-    requires { ⌜ log-refusal (now log) ≡ Passed ⌝ }
+// The next order in the version graph of a clean log, or 14, by who committed and the writers of the next versions.
+fn in_version_graph(
+    log: &[u16],
+    part: [u8; Transaction::COUNT],
+    next: &[u8; Transaction::PAIRS],
+    order: &[u16],
+) -> Following
+    requires { ⌜ (log-refusal (now log) ≡ Passed) × (is-clean (now log) ≡ true) × Committed (now log) part × NextWriters (now log) (now next) ⌝ }
     ensures { λ r. ⌜ Comes (now (log .entry)) (now (order .entry)) r ⌝ }
 {
-    let clean = judge_clean(log);
-    if let Cleanness::Unclean(_) = clean {
-        return not_listed();
-    }
-    let part = committed_ones(log);
     let mut matrix = [0u8; graph::MATRIX];
-    draw(log, &mut matrix, &part);
+    draw(log, &mut matrix, &part, next);
     follow(log, &matrix, part, order)
 }
 
+// What comes after an order that is handed in with a well-formed log, by the marks of what each transaction writes.
+fn after_order(log: &[u16], found: Examined, order: &[u16]) -> Following
+    requires { ⌜ (log-refusal (now log) ≡ Passed) × WriteTable (now log) (found .writes) ⌝ }
+    ensures { λ r. ⌜ Comes (now (log .entry)) (now (order .entry)) r ⌝ }
+{
+    let writes = found.writes;
+    let part = committed_ones(log);
+    let clean = judge_clean(log, &part);
+    if let Cleanness::Unclean(_) = clean {
+        return not_listed();
+    }
+    let mut next = [0u8; Transaction::PAIRS];
+    next_writers(log, &writes, &mut next);
+    in_version_graph(log, part, &next, order)
+}
+
 // 12 where a buffer or the order handed in has a wrong length, and then what the check finds.
-fn admit_order(log: &[u16], work: usize, witness: usize, order: usize) -> Checked
-    ensures { λ r. ⌜ r ≡ (12 at 0 when fails (work is work-bytes) else-try 12 at 0 when fails (witness is witness-entries)
-        else-try 12 at 0 when fails (order is order-entries) else-try log-refusal (now (log .entry))) ⌝ }
+fn admit_order(log: &[u16], work: usize, witness: usize, order: usize) -> Examined
+    ensures { λ r. ⌜ Examines (now (log .entry)) (12 at 0 when fails (work is work-bytes) else-try 12 at 0 when fails (witness is witness-entries)
+        else-try 12 at 0 when fails (order is order-entries) else-try log-refusal (now (log .entry))) r ⌝ }
 {
     if work != Log::WORK {
-        return Checked::Refused(12, 0);
+        return turned_away(12, 0);
     }
     if witness != Transaction::COUNT {
-        return Checked::Refused(12, 0);
+        return turned_away(12, 0);
     }
     if order != Transaction::COUNT {
-        return Checked::Refused(12, 0);
+        return turned_away(12, 0);
     }
-    check(log)
+    examine(log)
 }
 
 // The first explaining order that comes later than the one handed in, or none.
@@ -155,10 +177,11 @@ pub fn next(log: &[u16], order: &[u16], work: &mut [u8], witness: &mut [u16]) ->
     ensures { λ r. ⌜ NextCall (now (log .entry)) (now (order .entry)) (now (work .entry)) (now (witness .entry)) r (now (work .exit)) (now (witness .exit)) ⌝ }
 {
     let admitted = admit_order(log, work.len(), witness.len(), order.len());
-    if let Checked::Refused(number, place) = admitted {
+    let refused = admitted.checked;
+    if let Checked::Refused(number, place) = refused {
         return WitnessAnswer::Refused(number, place);
     }
-    let following = after_order(log, order);
+    let following = after_order(log, admitted, order);
     let checked = following.checked;
     let found = following.found;
     match checked {

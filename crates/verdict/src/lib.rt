@@ -12,6 +12,7 @@ mod refusal;
 mod search;
 mod snapshots;
 mod step;
+mod tables;
 mod version_graph;
 mod walk;
 

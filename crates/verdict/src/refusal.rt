@@ -10,7 +10,7 @@ use crate::step::Step;
 use crate::step::step_at;
 use crate::walk::index;
 use crate::walk::marked;
-use crate::walk::pair_marked;
+use crate::walk::object_marked;
 ghost use mathlib.Core.Path.{_≡_};
 ghost use Prim.Native.Nat.{ℕ, suc, _≤_, _+_, _*_};
 ghost use lib.ListN.{length};
@@ -19,7 +19,16 @@ ghost use Rattle.verdict.specs.Limits.{transactions, objects, witness-en
 ghost use Rattle.verdict.specs.Log.{steps, tx, begun, ended};
 ghost use Rattle.verdict.specs.Refusal.{_at_when_, _else-try_, tried, range-refusal, life-refusal, source-refusal, step-refusal, open-refusal, log-refusal};
 ghost use Rattle.verdict.specs.Inner.Marks.{Marked};
-ghost use Rattle.verdict.specs.Inner.Checking.{numbered, in-range, open-by-marks, InRange, Written, Noted};
+ghost use Rattle.verdict.specs.Inner.Checking.{numbered, in-range, open-by-marks, InRange, Noted, Examines};
+ghost use Rattle.verdict.specs.Inner.WriteTable.{Written};
+ghost use Rattle.verdict.specs.declared.answers.Checked.the-variants.{Refused};
+
+// What the check finds: its answer, and for each transaction the marks of the objects that it writes, which are those of the whole log
+// where nothing turns it away.
+pub(crate) struct Examined {
+    pub checked: Checked,
+    pub writes: [u64; Transaction::TABLE],
+}
 
 // Whether an object is as the kind allows it: any object, or only 0.
 fn object_fits(any: bool, x: u16) -> bool
@@ -106,7 +115,7 @@ fn life_number(
 }
 
 // 9 or 10, where it applies to step i, by the marks of who wrote what before it; else 0.
-fn source_number(log: &[u16], i: usize, writes: &[u8; Transaction::PAIRS]) -> u16
+fn source_number(log: &[u16], i: usize, writes: &[u64; Transaction::TABLE]) -> u16
     requires { ⌜ (4 * i + 4 ≤ length (now log)) × InRange (now log) i × Written (now log) i (now writes) ⌝ }
     ensures { λ r. ⌜ numbered r i ≡ source-refusal (now (log .entry)) i ⌝ }
 {
@@ -118,12 +127,12 @@ fn source_number(log: &[u16], i: usize, writes: &[u8; Transaction::PAIRS]) -> u1
         return 0;
     }
     if s != 0 {
-        if !pair_marked(writes, s, x) {
+        if !object_marked(writes, s, x) {
             return 9;
         }
     }
     if s != t {
-        if pair_marked(writes, t, x) {
+        if object_marked(writes, t, x) {
             return 10;
         }
     }
@@ -136,7 +145,7 @@ fn step_number(
     i: usize,
     begins: &[u8; Transaction::TABLE],
     ends: &[u8; Transaction::TABLE],
-    writes: &[u8; Transaction::PAIRS],
+    writes: &[u64; Transaction::TABLE],
 ) -> u16
     requires { ⌜ (4 * i + 4 ≤ length (now log)) × Noted (now log) i (now begins) (now ends) (now writes) ⌝ }
     ensures { λ r. ⌜ numbered r i ≡ step-refusal (now (log .entry)) i ⌝ }
@@ -159,7 +168,7 @@ fn note_step(
     i: usize,
     begins: &mut [u8; Transaction::TABLE],
     ends: &mut [u8; Transaction::TABLE],
-    writes: &mut [u8; Transaction::PAIRS],
+    writes: &mut [u64; Transaction::TABLE],
 )
     requires { ⌜ (4 * i + 4 ≤ length (now log)) × InRange (now log) i × Noted (now log) i (now begins) (now ends) (now writes) ⌝ }
     ensures { λ _. ⌜ Noted (now (log .entry)) (i + 1) (now (begins .exit)) (now (ends .exit)) (now (writes .exit)) ⌝ }
@@ -172,7 +181,7 @@ fn note_step(
     }
     if step.kind == Step::WRITE {
         let x = index(step.obj);
-        writes[t * Object::TABLE + x] = 1;
+        writes[t] = bits::with_mark(writes[t], x);
         return;
     }
     if step.kind == Step::COMMIT {
@@ -200,60 +209,81 @@ fn check_open(begins: &[u8; Transaction::TABLE], ends: &[u8; Transaction::TABLE]
     Checked::Passed
 }
 
+// A refusal, with nothing learned.
+pub(crate) fn turned_away(number: u16, place: usize) -> Examined
+    ensures { λ r. ⌜ r .checked ≡ Refused number place ⌝ }
+{
+    Examined {
+        checked: Checked::Refused(number, place),
+        writes: [0u64; Transaction::TABLE],
+    }
+}
+
 // 3 to 10, step by step, with marks carried along; and behind the last step 11.
-fn check_steps(log: &[u16], n: usize) -> Checked
+fn check_steps(log: &[u16], n: usize) -> Examined
     requires { ⌜ n ≡ steps (now log) ⌝ }
-    ensures { λ r. ⌜ r ≡ (tried n (step-refusal (now (log .entry))) else-try tried (suc transactions) (open-refusal (now (log .entry)))) ⌝ }
+    ensures { λ r. ⌜ Examines (now (log .entry)) (tried n (step-refusal (now (log .entry))) else-try tried (suc transactions) (open-refusal (now (log .entry)))) r ⌝ }
 {
     let mut begins = [0u8; Transaction::TABLE];
     let mut ends = [0u8; Transaction::TABLE];
-    let mut writes = [0u8; Transaction::PAIRS];
+    let mut writes = [0u64; Transaction::TABLE];
     let mut i = 0;
     while i < n {
         let number = step_number(log, i, &begins, &ends, &writes);
         if number != 0 {
-            return Checked::Refused(number, i);
+            return turned_away(number, i);
         }
         note_step(log, i, &mut begins, &mut ends, &mut writes);
         i += 1;
     }
-    check_open(&begins, &ends)
+    Examined {
+        checked: check_open(&begins, &ends),
+        writes,
+    }
+}
+
+// The first of 1 to 11 that applies, with its place, or that the log is well-formed; and what was learned of a well-formed log.
+pub(crate) fn examine(log: &[u16]) -> Examined
+    ensures { λ r. ⌜ Examines (now (log .entry)) (log-refusal (now (log .entry))) r ⌝ }
+{
+    if log.len() % 4 != 0 {
+        return turned_away(1, 0);
+    }
+    let n = log.len() / 4;
+    let made = Log::of(n);
+    let MadeLog::Within(_) = made else {
+        return turned_away(2, 0);
+    };
+    check_steps(log, n)
 }
 
 // The first of 1 to 11 that applies, with its place, or that the log is well-formed.
 pub fn check(log: &[u16]) -> Checked
     ensures { λ r. ⌜ r ≡ log-refusal (now (log .entry)) ⌝ }
 {
-    if log.len() % 4 != 0 {
-        return Checked::Refused(1, 0);
-    }
-    let n = log.len() / 4;
-    let made = Log::of(n);
-    let MadeLog::Within(_) = made else {
-        return Checked::Refused(2, 0);
-    };
-    check_steps(log, n)
+    let examined = examine(log);
+    examined.checked
 }
 
 // 12 where the work area has a wrong length, and then what the check finds.
-pub(crate) fn admit(log: &[u16], work: usize) -> Checked
-    ensures { λ r. ⌜ r ≡ (12 at 0 when fails (work is work-bytes) else-try log-refusal (now (log .entry))) ⌝ }
+pub(crate) fn admit(log: &[u16], work: usize) -> Examined
+    ensures { λ r. ⌜ Examines (now (log .entry)) (12 at 0 when fails (work is work-bytes) else-try log-refusal (now (log .entry))) r ⌝ }
 {
     if work != Log::WORK {
-        return Checked::Refused(12, 0);
+        return turned_away(12, 0);
     }
-    check(log)
+    examine(log)
 }
 
 // 12 where the work area or the witness has a wrong length, and then what the check finds.
-pub(crate) fn admit_witness(log: &[u16], work: usize, witness: usize) -> Checked
-    ensures { λ r. ⌜ r ≡ (12 at 0 when fails (work is work-bytes) else-try 12 at 0 when fails (witness is witness-entries) else-try log-refusal (now (log .entry))) ⌝ }
+pub(crate) fn admit_witness(log: &[u16], work: usize, witness: usize) -> Examined
+    ensures { λ r. ⌜ Examines (now (log .entry)) (12 at 0 when fails (work is work-bytes) else-try 12 at 0 when fails (witness is witness-entries) else-try log-refusal (now (log .entry))) r ⌝ }
 {
     if work != Log::WORK {
-        return Checked::Refused(12, 0);
+        return turned_away(12, 0);
     }
     if witness != Transaction::COUNT {
-        return Checked::Refused(12, 0);
+        return turned_away(12, 0);
     }
-    check(log)
+    examine(log)
 }

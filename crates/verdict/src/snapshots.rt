@@ -6,40 +6,42 @@ use crate::answers::Writer;
 use crate::leaving::clear;
 use crate::limits::Object;
 use crate::limits::Transaction;
+use crate::refusal::Examined;
 use crate::refusal::admit;
 use crate::step::Step;
 use crate::step::step_at;
-use crate::walk::first_step;
-use crate::walk::first_steps;
-use crate::walk::marked;
-use crate::walk::seen;
-use crate::walk::writers;
-use crate::walk::written;
+use crate::tables::first_steps;
+use crate::tables::next_of;
+use crate::tables::next_writers;
+use crate::walk::index;
+use crate::walk::object_marked;
 ghost use mathlib.Core.Path.{_≡_};
-ghost use Prim.Native.Nat.{_≤_, _+_, _*_};
+ghost use Prim.Native.Nat.{_≤_, _<_, _+_, _*_};
 ghost use lib.ListN.{length, getD};
-ghost use Rattle.words.specs.Tests.{_is_, _and_, fails, lowest};
+ghost use Rattle.words.specs.Tests.{_and_, lowest};
+ghost use Rattle.bits.specs.Word.{marked};
 ghost use Rattle.verdict.specs.Limits.{transactions, objects};
-ghost use Rattle.verdict.specs.Log.{steps, writer};
+ghost use Rattle.verdict.specs.Log.{steps, kind, tx};
 ghost use Rattle.verdict.specs.Refusal.{log-refusal};
-ghost use Rattle.verdict.specs.Snapshot.{writer-number, last-committed, wanted, wrong-read, snapshot-verdict};
+ghost use Rattle.verdict.specs.Snapshot.{last-committed, wanted, wrong-read, clash, snapshot-verdict};
 ghost use Rattle.verdict.specs.Call.{SnapshotCall};
-ghost use Rattle.verdict.specs.Inner.Marks.{FirstSteps, Marked};
-ghost use Rattle.verdict.specs.Inner.Clashes.{partner, FirstClash};
+ghost use Rattle.verdict.specs.Inner.Clashes.{FirstClash};
+ghost use Rattle.verdict.specs.Inner.Marks.{FirstSteps};
+ghost use Rattle.verdict.specs.Inner.NextWriters.{NextWriters};
+ghost use Rattle.verdict.specs.Inner.WriteTable.{WriteTable};
 ghost use Rattle.verdict.specs.declared.answers.Checked.the-variants.{Passed};
 
 // The last transaction to commit, before step b, among the committed writers of x, and the step of its commit; else the store.
-pub(crate) fn last_committed(log: &[u16], b: usize, x: u16) -> Writer
-    requires { ⌜ (log-refusal (now log) ≡ Passed) × (4 * b ≤ length (now log)) ⌝ }
+fn last_committed(log: &[u16], writes: &[u64; Transaction::TABLE], b: usize, x: u16) -> Writer
+    requires { ⌜ (log-refusal (now log) ≡ Passed) × WriteTable (now log) (now writes) × (4 * b ≤ length (now log)) × (x < objects) ⌝ }
     ensures { λ r. ⌜ r ≡ last-committed (now (log .entry)) b x ⌝ }
 {
-    let marks = writers(log, x);
     let mut j = b;
     while 0 < j {
         j -= 1;
         let earlier = step_at(log, j);
         if earlier.kind == Step::COMMIT {
-            if marked(&marks, earlier.tx) {
+            if object_marked(writes, earlier.tx, x) {
                 return Writer::Committed(earlier.tx, j);
             }
         }
@@ -47,56 +49,77 @@ pub(crate) fn last_committed(log: &[u16], b: usize, x: u16) -> Writer
     Writer::Store
 }
 
-// A writer's number.
-fn number_of(writer: Writer) -> u16
-    ensures { λ r. ⌜ r ≡ writer-number writer ⌝ }
+// The table's step for t.
+fn step_of(table: &[usize; Transaction::TABLE], t: u16) -> usize
+    requires { ⌜ t ≤ transactions ⌝ }
+    ensures { λ r. ⌜ r ≡ getD (now (table .entry)) t 0 ⌝ }
 {
-    match writer {
-        Writer::Store => 0,
-        Writer::Committed(t, s) => t,
-    }
+    let at = index(t);
+    table[at]
 }
 
 // What read i should have found.
-fn wanted(log: &[u16], i: usize) -> Writer
-    requires { ⌜ (log-refusal (now log) ≡ Passed) × (4 * i + 4 ≤ length (now log)) ⌝ }
+fn wanted(
+    log: &[u16],
+    writes: &[u64; Transaction::TABLE],
+    begins: &[usize; Transaction::TABLE],
+    i: usize,
+) -> Writer
+    requires { ⌜ (log-refusal (now log) ≡ Passed) × WriteTable (now log) (now writes) × FirstSteps (now log) 1 (now begins) × (4 * i + 4 ≤ length (now log)) ⌝ }
     ensures { λ r. ⌜ r ≡ wanted (now (log .entry)) i ⌝ }
 {
     let step = step_at(log, i);
-    let b = first_step(log, Step::BEGIN, step.tx);
-    last_committed(log, b, step.obj)
+    last_committed(log, writes, step_of(begins, step.tx), step.obj)
 }
 
-// Whether step i is a judged read from another that names anyone but the last committed writer before its snapshot.
-fn is_wrong(log: &[u16], i: usize) -> bool
-    requires { ⌜ (log-refusal (now log) ≡ Passed) × (4 * i + 4 ≤ length (now log)) ⌝ }
+// Whether step i is a judged read from another that names anyone but the last committed writer before its snapshot: there the writer of the
+// next version has committed too, or the source has not.
+fn is_wrong(
+    log: &[u16],
+    begins: &[usize; Transaction::TABLE],
+    commits: &[usize; Transaction::TABLE],
+    next: &[u8; Transaction::PAIRS],
+    i: usize,
+) -> bool
+    requires { ⌜ (log-refusal (now log) ≡ Passed) × FirstSteps (now log) 1 (now begins) × FirstSteps (now log) 4 (now commits)
+        × NextWriters (now log) (now next) × (4 * i + 4 ≤ length (now log)) ⌝ }
     ensures { λ r. ⌜ r ≡ wrong-read (now (log .entry)) i ⌝ }
 {
-    let n = log.len() / 4;
     let step = step_at(log, i);
     if step.kind != Step::READ {
         return false;
     }
-    let t = step.tx;
-    let s = step.src;
-    if s == t {
+    if step.src == step.tx {
         return false;
     }
-    if !seen(log, n, Step::COMMIT, t) {
+    if log.len() / 4 <= step_of(commits, step.tx) {
         return false;
     }
-    s != number_of(wanted(log, i))
+    let b = step_of(begins, step.tx);
+    if step_of(commits, next_of(next, step.src, step.obj)) < b {
+        return true;
+    }
+    if step.src == 0 {
+        return false;
+    }
+    b <= step_of(commits, step.src)
 }
 
 // The lowest wrong read, or the number of steps where there is none.
-fn first_wrong(log: &[u16]) -> usize
-    requires { ⌜ log-refusal (now log) ≡ Passed ⌝ }
+fn first_wrong(
+    log: &[u16],
+    begins: &[usize; Transaction::TABLE],
+    commits: &[usize; Transaction::TABLE],
+    next: &[u8; Transaction::PAIRS],
+) -> usize
+    requires { ⌜ (log-refusal (now log) ≡ Passed) × FirstSteps (now log) 1 (now begins) × FirstSteps (now log) 4 (now commits)
+        × NextWriters (now log) (now next) ⌝ }
     ensures { λ r. ⌜ r ≡ lowest (steps (now (log .entry))) (wrong-read (now (log .entry))) ⌝ }
 {
     let n = log.len() / 4;
     let mut i = 0;
     while i < n {
-        if is_wrong(log, i) {
+        if is_wrong(log, begins, commits, next, i) {
             return i;
         }
         i += 1;
@@ -104,45 +127,42 @@ fn first_wrong(log: &[u16]) -> usize
     i
 }
 
-// For each object, whether p writes it, if p committed before step j and overlaps t; else no mark.
-fn partner_marks(
-    log: &[u16],
+// Whether step j, the commit of t, is the later of two clashing writers, and p is its partner.
+fn clashes(
+    writes: &[u64; Transaction::TABLE],
     begins: &[usize; Transaction::TABLE],
     commits: &[usize; Transaction::TABLE],
+    log: &[u16],
     j: usize,
     t: u16,
     p: u16,
-) -> [u8; Object::TABLE]
-    requires { ⌜ (log-refusal (now log) ≡ Passed) × FirstSteps (now log) 1 (now begins) × FirstSteps (now log) 4 (now commits)
-        × (j ≤ steps (now log)) × (t ≤ transactions) × (p ≤ transactions) ⌝ }
-    ensures { λ r. ⌜ Marked objects (λ x. partner (now (log .entry)) j t p and writer (now (log .entry)) x p) r ⌝ }
+) -> bool
+    requires { ⌜ (log-refusal (now log) ≡ Passed) × WriteTable (now log) (now writes) × FirstSteps (now log) 1 (now begins)
+        × FirstSteps (now log) 4 (now commits) × (j < steps (now log)) × (kind (now log) j ≡ 4) × (tx (now log) j ≡ t) × (t ≤ transactions) × (p ≤ transactions) ⌝ }
+    ensures { λ r. ⌜ r ≡ clash (now (log .entry)) j p ⌝ }
 {
-    let ours = commits[t as usize];
-    let theirs = commits[p as usize];
+    let theirs = step_of(commits, p);
     if j <= theirs {
-        return [0u8; Object::TABLE];
+        return false;
     }
-    if theirs <= begins[t as usize] {
-        return [0u8; Object::TABLE];
+    if theirs <= step_of(begins, t) {
+        return false;
     }
-    if ours <= begins[p as usize] {
-        return [0u8; Object::TABLE];
+    if step_of(commits, t) <= step_of(begins, p) {
+        return false;
     }
-    written(log, p)
+    bits::share(writes[index(t)], writes[index(p)])
 }
 
-// Whether both marks of x are set.
-fn both_write(mine: &[u8; Object::TABLE], theirs: &[u8; Object::TABLE], x: usize) -> bool
-    requires { ⌜ x + 1 ≤ objects ⌝ }
-    ensures { λ r. ⌜ r ≡ (fails (getD (now (mine .entry)) x 0 is 0) and fails (getD (now (theirs .entry)) x 0 is 0)) ⌝ }
+// Whether t and p both write x.
+fn both_write(writes: &[u64; Transaction::TABLE], t: u16, p: u16, x: u16) -> bool
+    requires { ⌜ (t ≤ transactions) × (p ≤ transactions) ⌝ }
+    ensures { λ r. ⌜ r ≡ (marked (getD (now (writes .entry)) t 0) x and marked (getD (now (writes .entry)) p 0) x) ⌝ }
 {
-    if mine[x] == 0 {
+    if !object_marked(writes, t, x) {
         return false;
     }
-    if theirs[x] == 0 {
-        return false;
-    }
-    true
+    object_marked(writes, p, x)
 }
 
 // A clash: the commit of the later writer, and the partner.
@@ -151,34 +171,44 @@ struct Clash {
     partner: u16,
 }
 
-// The first clash over commits, partners and objects; its step is the number of steps where there is none.
-fn first_clash(log: &[u16]) -> Clash
-    requires { ⌜ log-refusal (now log) ≡ Passed ⌝ }
-    ensures { λ r. ⌜ FirstClash (now (log .entry)) (r .step) (r .partner) ⌝ }
+// The first clash over commits, partners and objects before step k; its step is k where there is none. Partners are tried where an object
+// was written by one who committed since the transaction began, and objects where the partner overlaps and shares a mark.
+fn first_clash(
+    log: &[u16],
+    writes: &[u64; Transaction::TABLE],
+    begins: &[usize; Transaction::TABLE],
+    commits: &[usize; Transaction::TABLE],
+    k: usize,
+) -> Clash
+    requires { ⌜ (log-refusal (now log) ≡ Passed) × WriteTable (now log) (now writes) × FirstSteps (now log) 1 (now begins)
+        × FirstSteps (now log) 4 (now commits) × (k ≤ steps (now log)) ⌝ }
+    ensures { λ r. ⌜ FirstClash (now (log .entry)) k (r .step) (r .partner) ⌝ }
 {
-    let begins = first_steps(log, Step::BEGIN);
-    let commits = first_steps(log, Step::COMMIT);
-    let n = log.len() / 4;
+    let mut last = [0u16; Object::TABLE];
     let mut j = 0;
     let mut p: u16 = 0;
-    let mut x = 0;
-    'search: while j < n {
+    let mut x: u16 = 0;
+    'search: while j < k {
         let step = step_at(log, j);
         if step.kind == Step::COMMIT {
             let t = step.tx;
-            let mine = written(log, t);
-            p = 0;
-            while p <= Transaction::LIMIT {
-                let theirs = partner_marks(log, &begins, &commits, j, t, p);
-                x = 0;
-                while x < Object::TABLE {
-                    if both_write(&mine, &theirs, x) {
-                        break 'search;
+            let mine = writes[index(t)];
+            if bits::marked_above(&last, mine, step_of(begins, t) + 1) {
+                p = 0;
+                while p <= Transaction::LIMIT {
+                    if clashes(writes, begins, commits, log, j, t, p) {
+                        x = 0;
+                        while x < Object::LIMIT {
+                            if both_write(writes, t, p, x) {
+                                break 'search;
+                            }
+                            x += 1;
+                        }
                     }
-                    x += 1;
+                    p += 1;
                 }
-                p += 1;
             }
+            last = bits::put_marked(last, mine, (j + 1) as u16);
         }
         j += 1;
     }
@@ -188,23 +218,40 @@ fn first_clash(log: &[u16]) -> Clash
     }
 }
 
-// The snapshot verdict of a well-formed log.
-pub(crate) fn judge_snapshot(log: &[u16]) -> Snapshot
-    requires { ⌜ log-refusal (now log) ≡ Passed ⌝ }
+// The snapshot verdict of a well-formed log, by what each transaction writes and by the writers of the next versions.
+pub(crate) fn judge_snapshot(
+    log: &[u16],
+    writes: &[u64; Transaction::TABLE],
+    next: &[u8; Transaction::PAIRS],
+) -> Snapshot
+    requires { ⌜ (log-refusal (now log) ≡ Passed) × WriteTable (now log) (now writes) × NextWriters (now log) (now next) ⌝ }
     ensures { λ r. ⌜ r ≡ snapshot-verdict transactions (now (log .entry)) ⌝ }
 {
     let n = log.len() / 4;
-    let k = first_wrong(log);
-    let clash = first_clash(log);
+    let begins = first_steps(log, Step::BEGIN);
+    let commits = first_steps(log, Step::COMMIT);
+    let k = first_wrong(log, &begins, &commits, next);
+    let clash = first_clash(log, writes, &begins, &commits, k);
     let j = clash.step;
     let p = clash.partner;
-    if k < j {
-        return Snapshot::Read(k, wanted(log, k));
-    }
-    if j < n {
+    if j < k {
         return Snapshot::Write(j, p);
     }
+    if k < n {
+        return Snapshot::Read(k, wanted(log, writes, &begins, k));
+    }
     Snapshot::Yes
+}
+
+// The snapshot verdict of a well-formed log, by the marks of what each transaction writes.
+fn snapshot_by_marks(log: &[u16], found: Examined) -> Snapshot
+    requires { ⌜ (log-refusal (now log) ≡ Passed) × WriteTable (now log) (found .writes) ⌝ }
+    ensures { λ r. ⌜ r ≡ snapshot-verdict transactions (now (log .entry)) ⌝ }
+{
+    let writes = found.writes;
+    let mut next = [0u8; Transaction::PAIRS];
+    next_writers(log, &writes, &mut next);
+    judge_snapshot(log, &writes, &next)
 }
 
 // The snapshot verdict: yes, or the lowest wrong step.
@@ -212,11 +259,12 @@ pub fn snapshot(log: &[u16], work: &mut [u8]) -> SnapshotAnswer
     ensures { λ r. ⌜ SnapshotCall (now (log .entry)) (now (work .entry)) r (now (work .exit)) ⌝ }
 {
     let admitted = admit(log, work.len());
-    match admitted {
+    let checked = admitted.checked;
+    match checked {
         Checked::Refused(number, place) => SnapshotAnswer::Refused(number, place),
         Checked::Passed => {
             clear(work);
-            SnapshotAnswer::Judged(judge_snapshot(log))
+            SnapshotAnswer::Judged(snapshot_by_marks(log, admitted))
         }
     }
 }

@@ -13,12 +13,12 @@ use crate::edges::takes_part;
 use crate::leaving::leave;
 use crate::leaving::without_members;
 use crate::limits::Transaction;
+use crate::refusal::Examined;
 use crate::refusal::admit_witness;
 use crate::step::Step;
 use crate::step::step_at;
-use crate::walk::first_step;
-use crate::walk::marked;
-use crate::walk::writers;
+use crate::tables::next_of;
+use crate::tables::next_writers;
 ghost use mathlib.Core.Path.{_≡_};
 ghost use Prim.Native.Nat.{suc, _≤_, _+_, _*_};
 ghost use lib.ListN.{length};
@@ -27,67 +27,46 @@ ghost use Rattle.verdict.specs.Log.{kind, tx, obj, src};
 ghost use Rattle.verdict.specs.Refusal.{log-refusal};
 ghost use Rattle.verdict.specs.Clean.{cleanness};
 ghost use Rattle.verdict.specs.Judgement.{Holds};
-ghost use Rattle.verdict.specs.Version.{versions-from, version-edge, Version};
+ghost use Rattle.verdict.specs.Version.{version-edge, Version};
 ghost use Rattle.verdict.specs.Call.{VersionCall};
 ghost use Rattle.verdict.specs.Inner.Marks.{Committed};
 ghost use Rattle.verdict.specs.Inner.Edges.{matrix-bytes, no-edge, with-edge, Drawn};
+ghost use Rattle.verdict.specs.Inner.NextWriters.{NextWriters};
 ghost use Rattle.verdict.specs.Inner.VersionEdges.{next-writer, versions-until};
+ghost use Rattle.verdict.specs.Inner.WriteTable.{WriteTable};
 ghost use Rattle.verdict.specs.declared.answers.Checked.the-variants.{Passed};
 
-// From which step on a version after v's may be committed.
-fn versions_from(log: &[u16], v: u16) -> usize
-    ensures { λ r. ⌜ r ≡ versions-from (now (log .entry)) v ⌝ }
-{
-    if v == 0 {
-        return 0;
-    }
-    first_step(log, Step::COMMIT, v) + 1
-}
-
-// The writer of the next version of x after v's, or 0 where v's is the last.
-fn next_writer(log: &[u16], x: u16, v: u16) -> u16
-    requires { ⌜ log-refusal (now log) ≡ Passed ⌝ }
-    ensures { λ r. ⌜ r ≡ next-writer (now (log .entry)) x v ⌝ }
-{
-    let n = log.len() / 4;
-    let marks = writers(log, x);
-    let mut j = versions_from(log, v);
-    while j < n {
-        let step = step_at(log, j);
-        if step.kind == Step::COMMIT {
-            if marked(&marks, step.tx) {
-                return step.tx;
-            }
-        }
-        j += 1;
-    }
-    0
-}
-
 // The edge of a write: from its transaction to the writer of the next version.
-fn mark_write(log: &[u16], matrix: &mut [u8], i: usize)
-    requires { ⌜ (log-refusal (now log) ≡ Passed) × (4 * i + 4 ≤ length (now log)) × (length (now matrix) ≡ matrix-bytes) ⌝ }
+fn mark_write(log: &[u16], matrix: &mut [u8], next: &[u8; Transaction::PAIRS], i: usize)
+    requires { ⌜ (log-refusal (now log) ≡ Passed) × (4 * i + 4 ≤ length (now log)) × (kind (now log) i ≡ 3) × NextWriters (now log) (now next) × (length (now matrix) ≡ matrix-bytes) ⌝ }
     ensures { λ _. ⌜ now (matrix .exit) ≡ with-edge (now (matrix .entry)) (tx (now (log .entry)) i) (next-writer (now (log .entry)) (obj (now (log .entry)) i) (tx (now (log .entry)) i)) ⌝ }
 {
     let step = step_at(log, i);
-    let next = next_writer(log, step.obj, step.tx);
-    join(matrix, step.tx, next);
+    let then = next_of(next, step.tx, step.obj);
+    join(matrix, step.tx, then);
 }
 
 // The edges of a read: from its source to the reader, and from the reader to the writer of the version after the one read.
-fn mark_read(log: &[u16], matrix: &mut [u8], i: usize)
-    requires { ⌜ (log-refusal (now log) ≡ Passed) × (4 * i + 4 ≤ length (now log)) × (kind (now log) i ≡ 2) × (length (now matrix) ≡ matrix-bytes) ⌝ }
+fn mark_read(log: &[u16], matrix: &mut [u8], next: &[u8; Transaction::PAIRS], i: usize)
+    requires { ⌜ (log-refusal (now log) ≡ Passed) × (4 * i + 4 ≤ length (now log)) × (kind (now log) i ≡ 2) × NextWriters (now log) (now next) × (length (now matrix) ≡ matrix-bytes) ⌝ }
     ensures { λ _. ⌜ now (matrix .exit) ≡ with-edge (with-edge (now (matrix .entry)) (src (now (log .entry)) i) (tx (now (log .entry)) i)) (tx (now (log .entry)) i) (next-writer (now (log .entry)) (obj (now (log .entry)) i) (src (now (log .entry)) i)) ⌝ }
 {
     let step = step_at(log, i);
-    let next = next_writer(log, step.obj, step.src);
+    let then = next_of(next, step.src, step.obj);
     join(matrix, step.src, step.tx);
-    join(matrix, step.tx, next);
+    join(matrix, step.tx, then);
 }
 
 // The edges of step i.
-fn mark_step(log: &[u16], matrix: &mut [u8], part: &[u8; Transaction::COUNT], i: usize)
-    requires { ⌜ (log-refusal (now log) ≡ Passed) × (4 * i + 4 ≤ length (now log)) × Committed (now log) (now part) × Drawn (versions-until (now log) i) (now matrix) ⌝ }
+fn mark_step(
+    log: &[u16],
+    matrix: &mut [u8],
+    part: &[u8; Transaction::COUNT],
+    next: &[u8; Transaction::PAIRS],
+    i: usize,
+)
+    requires { ⌜ (log-refusal (now log) ≡ Passed) × (4 * i + 4 ≤ length (now log)) × Committed (now log) (now part) × NextWriters (now log) (now next)
+        × Drawn (versions-until (now log) i) (now matrix) ⌝ }
     ensures { λ _. ⌜ Drawn (versions-until (now (log .entry)) (suc i)) (now (matrix .exit)) ⌝ }
 {
     let step = step_at(log, i);
@@ -95,39 +74,61 @@ fn mark_step(log: &[u16], matrix: &mut [u8], part: &[u8; Transaction::COUNT], i:
         return;
     }
     if step.kind == Step::READ {
-        mark_read(log, matrix, i);
+        mark_read(log, matrix, next, i);
         return;
     }
     if step.kind == Step::WRITE {
-        mark_write(log, matrix, i);
+        mark_write(log, matrix, next, i);
     }
 }
 
 // Draws the edges of the version graph in a matrix that has none.
-pub(crate) fn draw(log: &[u16], matrix: &mut [u8], part: &[u8; Transaction::COUNT])
-    requires { ⌜ (log-refusal (now log) ≡ Passed) × Committed (now log) (now part) × Drawn no-edge (now matrix) ⌝ }
+pub(crate) fn draw(
+    log: &[u16],
+    matrix: &mut [u8],
+    part: &[u8; Transaction::COUNT],
+    next: &[u8; Transaction::PAIRS],
+)
+    requires { ⌜ (log-refusal (now log) ≡ Passed) × Committed (now log) (now part) × NextWriters (now log) (now next) × Drawn no-edge (now matrix) ⌝ }
     ensures { λ _. ⌜ Drawn (version-edge (now (log .entry))) (now (matrix .exit)) ⌝ }
 {
     let n = log.len() / 4;
     let mut i = 0;
     while i < n {
-        mark_step(log, matrix, part, i);
+        mark_step(log, matrix, part, next, i);
         i += 1;
     }
 }
 
-// The version verdict of a well-formed log, by its clean verdict.
-pub(crate) fn judge_version(log: &[u16], clean: Cleanness) -> Witnessed
-    requires { ⌜ (log-refusal (now log) ≡ Passed) × (clean ≡ cleanness (now log)) ⌝ }
+// The version verdict of a well-formed log, by its clean verdict, who committed, and the writers of the next versions.
+pub(crate) fn judge_version(
+    log: &[u16],
+    clean: Cleanness,
+    part: [u8; Transaction::COUNT],
+    next: &[u8; Transaction::PAIRS],
+) -> Witnessed
+    requires { ⌜ (log-refusal (now log) ≡ Passed) × (clean ≡ cleanness (now log)) × Committed (now log) part × NextWriters (now log) (now next) ⌝ }
     ensures { λ r. ⌜ Holds (Version transactions (now (log .entry))) r ⌝ }
 {
     if let Cleanness::Unclean(fault) = clean {
         return without_members(Answer::Unclean(fault));
     }
-    let part = committed_ones(log);
     let mut matrix = [0u8; graph::MATRIX];
-    draw(log, &mut matrix, &part);
+    draw(log, &mut matrix, &part, next);
     show(&matrix, part)
+}
+
+// The version verdict of a well-formed log, by the marks of what each transaction writes.
+fn version_by_marks(log: &[u16], found: Examined) -> Witnessed
+    requires { ⌜ (log-refusal (now log) ≡ Passed) × WriteTable (now log) (found .writes) ⌝ }
+    ensures { λ r. ⌜ Holds (Version transactions (now (log .entry))) r ⌝ }
+{
+    let writes = found.writes;
+    let part = committed_ones(log);
+    let clean = judge_clean(log, &part);
+    let mut next = [0u8; Transaction::PAIRS];
+    next_writers(log, &writes, &mut next);
+    judge_version(log, clean, part, &next)
 }
 
 // The version verdict: the fault of an unclean read, or else the first order that keeps every edge, or the first shortest cycle.
@@ -135,8 +136,9 @@ pub fn version(log: &[u16], work: &mut [u8], witness: &mut [u16]) -> WitnessAnsw
     ensures { λ r. ⌜ VersionCall (now (log .entry)) (now (work .entry)) (now (witness .entry)) r (now (work .exit)) (now (witness .exit)) ⌝ }
 {
     let admitted = admit_witness(log, work.len(), witness.len());
-    match admitted {
+    let checked = admitted.checked;
+    match checked {
         Checked::Refused(number, place) => WitnessAnswer::Refused(number, place),
-        Checked::Passed => leave(work, witness, judge_version(log, judge_clean(log))),
+        Checked::Passed => leave(work, witness, version_by_marks(log, admitted)),
     }
 }

@@ -5,3 +5,4 @@ pub mod Entries
 pub mod Dictionary
 pub mod Search
 pub mod Pigeon
+pub mod From

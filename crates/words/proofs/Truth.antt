@@ -323,6 +323,19 @@ count-above (suc n) p h =
     ⊎-elim (λ (k : p (suc n) ≡ true). let e : count (suc (suc n)) p ≡ suc (count (suc n) p) = if-true _ _ k in omega arith)
     (λ (k : p (suc n) ≡ false). let e : count (suc (suc n)) p ≡ count (suc n) p = if-false _ _ k in omega arith) (decide (p (suc n)))
 
+-- more numbers, and no fewer that pass
+pub count-upto : (m n : ℕ) (p : ℕ → Bool) → m ≤ n → count m p ≤ count n p
+unfolding count
+count-upto m zero p h = let e : m ≡ 0 = omega arith in rw e (omega arith)
+count-upto m (suc n) p h = go (decide (m upto n)) (λ l. count-upto m n p l)
+  where
+    go : ((m upto n) ≡ true) ⊎ ((m upto n) ≡ false) → (m ≤ n → count m p ≤ count n p) → count m p ≤ count (suc n) p
+    go (inr k) again = let e : m ≡ suc n = omega (arith, not-upto→ k) in rw e (omega arith)
+    go (inl k) again =
+        let r : count m p ≤ count n p = again (upto→ k) in
+        ⊎-elim (λ (q : p n ≡ true). let e : count (suc n) p ≡ suc (count n p) = if-true _ _ q in omega arith)
+        (λ (q : p n ≡ false). let e : count (suc n) p ≡ count n p = if-false _ _ q in omega arith) (decide (p n))
+
 pub some-next : (i : ℕ) (p : ℕ → Bool) → some (i + 1) p ≡ (some i p or p i)
 unfolding some
 some-next i p = rw (add-one i) refl
@@ -346,42 +359,41 @@ pub highest-no : (n : ℕ) (p : ℕ → Bool) → p n ≡ false → some n p ≡
 unfolding highest
 highest-no n p h k = if-false n (if some n p then highest n p else suc n) h ∙ if-true (highest n p) (suc n) k
 
-pub highest-below : (n : ℕ) (p : ℕ → Bool) → some n p ≡ true → highest n p < n
-unfolding some
-highest-below zero p h = absurd (false≢true h)
-highest-below (suc n) p h = go (decide (p n)) (λ k. highest-below n p k)
-  where
-    go : (p n ≡ true) ⊎ (p n ≡ false) → (some n p ≡ true → highest n p < n) → highest (suc n) p < suc n
-    go (inl k) rec = rw (highest-yes n p k) (omega arith)
-    go (inr k) rec = let s : some n p ≡ true = sym (or-no (some n p) k) ∙ h in rw (highest-no n p k s) (omega (arith, rec s))
-
 pub highest-none : (n : ℕ) (p : ℕ → Bool) → some n p ≡ false → highest n p ≡ n
 unfolding highest
 highest-none zero p h = refl
 highest-none (suc n) p h = if-false _ _ (none→ {n = suc n} p h n (omega arith)) ∙ if-false _ _ (none-below {i = suc n} n p h (omega arith))
 
--- the lowest that passes one of two tests is the lower of the two lowest
-pub lowest-left : (n : ℕ) (p q : ℕ → Bool) → lowest n p < lowest n q → lowest n (λ i. p i or q i) ≡ lowest n p
-lowest-left n p q h = go (decide (some n p))
+-- where one passes, the highest is below n and passes, and nothing between them does
+pub highest-is : (n : ℕ) (p : ℕ → Bool) → some n p ≡ true → (highest n p < n) × (p (highest n p) ≡ true) × ((i : ℕ) → highest n p < i → i < n → p i ≡ false)
+unfolding some
+highest-is zero p h = absurd (false≢true h)
+highest-is (suc n) p h = go (decide (p n)) (λ k. highest-is n p k)
   where
-    go : (some n p ≡ true) ⊎ (some n p ≡ false) → lowest n (λ i. p i or q i) ≡ lowest n p
-    go (inr k) = absurd (let e : lowest n p ≡ n = lowest-none p k in let z : lowest n q ≤ n = lowest-bound {n = n} q in omega arith)
-    go (inl k) =
-        let r = lowest-is p k in
-        lowest-at (λ i. p i or q i) (lowest n p) (r .0) (→or-left _ (r .1))
-        (λ (i : ℕ) (l : i < lowest n p). or-false (r .2 i l) ∙ below-lowest n q i (omega arith))
+    go : (p n ≡ true) ⊎ (p n ≡ false)
+        → (some n p ≡ true → (highest n p < n) × (p (highest n p) ≡ true) × ((i : ℕ) → highest n p < i → i < n → p i ≡ false))
+        → (highest (suc n) p < suc n) × (p (highest (suc n) p) ≡ true) × ((i : ℕ) → highest (suc n) p < i → i < suc n → p i ≡ false)
+    go (inl k) rec = rw (highest-yes n p k) (omega arith, k, λ (i : ℕ) (a : n < i) (b : i < suc n). absurd (omega arith))
+    go (inr k) rec =
+        let s : some n p ≡ true = sym (or-no (some n p) k) ∙ h in
+        let r = rec s in
+        rw (highest-no n p k s) (omega (arith, r .0), r .1, λ (i : ℕ) (a : highest n p < i) (b : i < suc n). last i a b (r .2 i a) (decide (i below n)))
+      where
+        last : (i : ℕ) → highest n p < i → i < suc n → (i < n → p i ≡ false) → ((i below n) ≡ true) ⊎ ((i below n) ≡ false) → p i ≡ false
+        last i a b f (inl l) = f (below→ l)
+        last i a b f (inr l) = let e : i ≡ n = omega (arith, not-below→ l) in rw e k
 
-pub lowest-right : (n : ℕ) (p q : ℕ → Bool) → lowest n q ≤ lowest n p → lowest n (λ i. p i or q i) ≡ lowest n q
-lowest-right n p q h = go (decide (some n q))
+-- a number that passes while nothing between it and n does is the highest
+pub highest-at : (n : ℕ) (p : ℕ → Bool) (i : ℕ) → i < n → p i ≡ true → ((j : ℕ) → i < j → j < n → p j ≡ false) → highest n p ≡ i
+highest-at n p i h q f = go (decide (highest n p below i)) (decide (i below highest n p))
   where
-    go : (some n q ≡ true) ⊎ (some n q ≡ false) → lowest n (λ i. p i or q i) ≡ lowest n q
-    go (inr k) =
-        let e : lowest n q ≡ n = lowest-none q k in
-        lowest-none (λ i. p i or q i) (→none _ (λ (i : ℕ) (l : i < n). or-false (below-lowest n p i (omega arith)) ∙ none→ q k i l)) ∙ sym e
-    go (inl k) =
-        let r = lowest-is q k in
-        lowest-at (λ i. p i or q i) (lowest n q) (r .0) (→or-right _ (r .1))
-        (λ (i : ℕ) (l : i < lowest n q). or-false (below-lowest n p i (omega arith)) ∙ r .2 i l)
+    found : (highest n p < n) × (p (highest n p) ≡ true) × ((j : ℕ) → highest n p < j → j < n → p j ≡ false)
+    found = highest-is n p (→some p i h q)
+
+    go : ((highest n p below i) ≡ true) ⊎ ((highest n p below i) ≡ false) → ((i below highest n p) ≡ true) ⊎ ((i below highest n p) ≡ false) → highest n p ≡ i
+    go (inl a) b = absurd (not-both q (found .2 i (below→ a) h))
+    go (inr a) (inl b) = absurd (not-both (found .1) (f (highest n p) (below→ b) (found .0)))
+    go (inr a) (inr b) = omega (arith, not-below→ a, not-below→ b)
 
 -- counting: tests that agree, and one that passes at one number fewer
 pub count-same : (n : ℕ) (p q : ℕ → Bool) → ((i : ℕ) → i < n → p i ≡ q i) → count n p ≡ count n q

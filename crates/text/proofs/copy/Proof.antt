@@ -3,7 +3,7 @@ use native.Mathlib.Omega.{arith}
 use mathlib.Core.Path.{_≡_, refl}
 use Prim.Native.Nat.{_-_}
 use lib.ListN.{length, getD}
-use Rattle.verdict.proofs.Tables.{Filled, filled-none, filled-more, filled-copy}
+use Rattle.verdict.proofs.Filled.{Filled, filled-none, filled-more, filled-copy}
 use Rattle.text.proofs.copy.Statement.{statement}
 use Rattle.text.proofs.copy.Tie as tie
 

@@ -2,13 +2,15 @@
 use mathlib.Core.Path.{_≡_}
 use mathlib.Core.Bool.{Bool}
 use mathlib.Core.List.{List}
-use Prim.Native.Nat.{ℕ, suc, _*_, _/_, _%_}
+use Prim.Native.Nat.{ℕ, suc}
 use lib.ListN.{length, getD}
 use Rattle.words.specs.Tests.{_is_, _below_, _upto_, _and_, fails, if_then_else_}
 use Rattle.verdict.specs.Limits.{transactions, objects}
-use Rattle.verdict.specs.Log.{kind, tx, obj, src, begun, ended, wrote}
+use Rattle.verdict.specs.Log.{kind, tx, obj, src, begun, ended}
 use Rattle.verdict.specs.Refusal.{_at_when_, _else-try_, range-refusal}
 use Rattle.verdict.specs.Inner.Marks.{Marked}
+use Rattle.verdict.specs.Inner.WriteTable.{Written, WriteTable}
+use Rattle.verdict.specs.declared.refusal.Examined.{Examined}
 use Rattle.verdict.specs.declared.answers.Checked.{Checked}
 use Rattle.verdict.specs.declared.answers.Checked.the-variants.{Passed}
 
@@ -32,15 +34,16 @@ module _ (log : List ℕ) (i : ℕ) where
   unfoldable pub InRange : Type 0
   InRange = range-refusal i (kind log i) (tx log i) (obj log i) (src log i) ≡ Passed
 
-  -- the marks say of each transaction and object whether it wrote the object before step i
-  unfoldable pub Written : List ℕ → Type 0
-  Written = Marked (suc transactions * objects) (λ k. wrote log i (k / objects) (k % objects))
-
   -- the marks say who has begun before step i, who has ended, and who wrote what
   pub record Noted (begins ends writes : List ℕ) : Type 0 where
     pub has-begun : Marked (suc transactions) (begun log i) begins
     pub has-ended : Marked (suc transactions) (ended log i) ends
-    pub has-written : Written writes
+    pub has-written : Written log i writes
     pub begins-size : length begins ≡ suc transactions
     pub ends-size : length ends ≡ suc transactions
-    pub writes-size : length writes ≡ suc transactions * objects
+    pub writes-size : length writes ≡ suc transactions
+
+-- what is found of a log: its refusal, and the marks of what each transaction writes where there is none
+pub record Examines (log : List ℕ) (refusal : Checked) (r : Examined) : Type 0 where
+  pub says : r .checked ≡ refusal
+  pub marks : refusal ≡ Passed → WriteTable log (r .writes)

@@ -4,6 +4,19 @@ use borrow.Author.Needs.{needs}
 use Rattle.verdict.proofs.all_verdicts.judge_all.Statement.{statement}
 use Rattle.verdict.proofs.all_verdicts.judge_all.Tie as tie
 
+-- the clean verdict, and the snapshot verdict
+abbrev clean : tie.After-judge-snapshot → tie.After-judge-clean
+clean c = c .before .before
+
+abbrev snapshot : tie.After-judge-exact → tie.After-judge-snapshot
+snapshot c = c .before .before .before .before
+
+committed-ones-requires : tie.Need-committed-ones-requires
+committed-ones-requires c κs = search needs
+
+next-writers-requires : tie.Need-next-writers-requires
+next-writers-requires c κs = search needs
+
 judge-clean-requires : tie.Need-judge-clean-requires
 judge-clean-requires c κs = search needs
 
@@ -21,14 +34,12 @@ judge-exact-requires c κs = search needs
 
 returns : tie.Need-returns
 returns c =
-    let version = c .before in
-    let clean = version .before .before .before in
     record {
       passed = refl;
-      clean-is = clean .judge-clean .ensures;
-      snapshot-is = version .before .before .judge-snapshot .ensures;
-      conflict-is = version .before .judge-conflict .ensures;
-      version-is = version .judge-version .ensures;
+      clean-is = clean (snapshot c) .judge-clean .ensures;
+      snapshot-is = snapshot c .judge-snapshot .ensures;
+      conflict-is = c .before .before .before .judge-conflict .ensures;
+      version-is = c .before .judge-version .ensures;
       exact-is = c .judge-exact .ensures;
     }
 
@@ -36,6 +47,8 @@ pub judge-all-spec : {M : Type 1} → statement M
 judge-all-spec =
     tie.close
     (tie.spec
+    committed-ones-requires
+    next-writers-requires
     judge-clean-requires
     judge-snapshot-requires
     judge-conflict-requires

@@ -14,18 +14,18 @@ abbrev entry : tie.After-admit → tie.Start
 entry c = c .before .before .before
 
 -- the call is taken, from where the work area is cleared
-abbrev taken : tie.After-slice-known2 → tie.After-enum-told
-taken c = c .before .before .before .before
+abbrev taken : tie.After-committed-ones → tie.After-enum-told
+taken c = c .before .before .before .before .before
 
 passed : (c : tie.After-enum-told) → let a = entry (c .before .before) .args in (work-refusal (a .work .now) else-try log-refusal (a .log .now)) ≡ Passed
 unfolding work-refusal
-passed c = sym (c .before .before .admit .ensures) ∙ c .enum-told .given .1
+passed c = sym (c .before .before .admit .ensures .says) ∙ c .enum-told .given .1
 
 admit-requires : tie.Need-admit-requires
 admit-requires c κs = search needs
 
-enum-known-admitted : tie.Need-enum-known-admitted
-enum-known-admitted c = search needs
+enum-known-checked : tie.Need-enum-known-checked
+enum-known-checked c = search needs
 
 enum-told : tie.Need-enum-told
 enum-told c = search needs
@@ -33,29 +33,34 @@ enum-told c = search needs
 clear-requires : tie.Need-clear-requires
 clear-requires c κs = search needs
 
+committed-ones-requires : tie.Need-committed-ones-requires
+committed-ones-requires c κs = else-try→ (passed (c .before .before .before .before)) .1
+
 judge-clean-requires : tie.Need-judge-clean-requires
-judge-clean-requires c κs = else-try→ (passed (taken c)) .1
+judge-clean-requires c κs = let known = c .before in (else-try→ (passed (taken known)) .1, known .committed-ones .ensures)
 
 returns : tie.Need-returns
 unfolding work-refusal
-returns c = turned-away _ _ (sym (c .before .admitted .given .1) ∙ c .before .before .before .admit .ensures) refl refl
+returns c = turned-away _ _ (sym (c .before .checked .given .1) ∙ c .before .before .before .admit .ensures .says) refl refl
 
 same-length : tie.Need-same-length
 same-length c = search needs
 
 returns-2 : tie.Need-returns-2
 returns-2 c =
-    let here = taken (c .before) in
-    answered (c .judge-clean .result) (sym (passed here)) (c .judge-clean .ensures) refl (work-left _ (entry (here .before .before) .args .work .now) _ (else-try→ (passed here) .0) (c .before .before .before .clear .ensures))
+    let known = c .before .before in
+    let here = taken known in
+    answered (c .judge-clean .result) (sym (passed here)) (c .judge-clean .ensures) refl (work-left _ (entry (here .before .before) .args .work .now) _ (else-try→ (passed here) .0) (known .before .before .before .clear .ensures))
 
 pub clean-spec : {M : Type 1} → statement M
 clean-spec =
     tie.close
     (tie.spec
     admit-requires
-    enum-known-admitted
+    enum-known-checked
     enum-told
     clear-requires
+    committed-ones-requires
     judge-clean-requires
     returns
     same-length

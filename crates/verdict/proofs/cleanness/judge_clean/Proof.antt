@@ -1,22 +1,59 @@
 -- `judge_clean` meets its contract.
-use mathlib.Core.Path.{_≡_, sym}
-use mathlib.Core.Bool.{Bool}
+use mathlib.Core.Path.{_≡_, refl, sym, ap, _∙_}
+use mathlib.Core.Bool.{Bool, true}
+use Prim.Native.Nat.{ℕ, _≤_, _<_}
 use native.Mathlib.Omega.{arith}
 use borrow.Author.Needs.{needs}
-use Rattle.verdict.specs.Log.{steps, src, aborted}
-use Rattle.verdict.proofs.Faults.{no-fault, from-aborted, from-unfinal}
-use Rattle.verdict.proofs.StepLaws.{by-aborts}
+use Rattle.words.specs.Tests.{fails}
+use Rattle.words.proofs.Truth.{→fails, →not-fails}
+use Rattle.verdict.specs.Limits.{transactions}
+use Rattle.verdict.specs.Log.{steps, kind, src, aborted}
+use Rattle.verdict.specs.Clean.{faulty-read}
+use Rattle.verdict.proofs.Ended.{aborted-else}
+use Rattle.verdict.proofs.Faults.{no-fault, faulty-judged, faulty-source, faulty-there, from-aborted, from-unfinal}
+use Rattle.verdict.proofs.JudgedReads.{is-read}
+use Rattle.verdict.proofs.Matrices.{told-committed}
+use Rattle.verdict.proofs.WellFormed.{Well, well-formed}
 use Rattle.verdict.proofs.cleanness.judge_clean.Statement.{statement}
 use Rattle.verdict.proofs.cleanness.judge_clean.Tie as tie
 
--- the lowest faulty step, from where it is known whether its source aborted
-abbrev faulty : tie.After-seen → tie.After-first-fault
-faulty c = c .before .before .before
+-- the lowest faulty step, from where it is read; and the entry
+abbrev faulty : tie.After-step-at → tie.After-first-fault
+faulty c = c .before .before
 
--- whether it aborted
-source : (c : tie.After-seen) {v : Bool} → c .seen .result ≡ v → let log = faulty c .before .before .args .log .now in aborted log (src log (faulty c .first-fault .result)) ≡ v
-unfolding steps
-source c q = by-aborts _ (c .before .step-at .ensures .src-is) (c .seen .ensures) q
+abbrev entry : tie.After-first-fault → tie.Start
+entry c = c .before .before
+
+-- the read there
+module _ (c : tie.After-step-at) where
+  abbrev start : tie.Start
+  start = entry (faulty c)
+
+  abbrev k : ℕ
+  k = faulty c .first-fault .result
+
+  in-log : k < steps (start .args .log .now)
+  unfolding steps
+  in-log = omega arith
+
+  at-fault : faulty-read (start .args .log .now) k ≡ true
+  at-fault = faulty-there _ k (faulty c .first-fault .ensures) in-log
+
+  well : Well transactions (start .args .log .now)
+  well = well-formed _ (start .pre .0)
+
+  read-there : kind (start .args .log .now) k ≡ 2
+  read-there = is-read _ k (faulty-judged _ k at-fault)
+
+  source-in : src (start .args .log .now) k ≤ transactions
+  source-in = well .sources k in-log read-there
+
+-- its source has aborted where it has not committed
+source : (c : tie.After-takes-part) {v : Bool} → c .takes-part .result ≡ v → let at = c .before in aborted (start at .args .log .now) (src (start at .args .log .now) (k at)) ≡ fails v
+source c q =
+    let at = c .before in
+    aborted-else _ (start at .pre .0) _ _ (source-in at) (well at .source (k at) (in-log at) (read-there at) (faulty-source _ (k at) (at-fault at)))
+    ∙ ap fails (sym (told-committed (start at .pre .1) (c .takes-part .ensures) (at .step-at .ensures .src-is)) ∙ q)
 
 first-fault-requires : tie.Need-first-fault-requires
 first-fault-requires c κs = search needs
@@ -28,18 +65,22 @@ returns c = sym (no-fault _ (rw (c .before .first-fault .ensures) at (c .if1 .ta
 step-at-requires : tie.Need-step-at-requires
 step-at-requires c κs = omega arith
 
-seen-requires : tie.Need-seen-requires
-seen-requires c κs = omega arith
+takes-part-requires : tie.Need-takes-part-requires
+takes-part-requires c κs =
+    let n = faulty-source _ (k c) (at-fault c) in
+    (omega (arith, c .step-at .ensures .src-is, n), omega (arith, c .step-at .ensures .src-is, source-in c))
 
 returns-2 : tie.Need-returns-2
-unfolding steps
-returns-2 c = sym (from-aborted _ _ (faulty (c .before) .first-fault .ensures) (omega arith) (source (c .before) (c .if2 .taken)))
+returns-2 c =
+    let at = c .before .before in
+    sym (from-unfinal _ _ (faulty at .first-fault .ensures) (in-log at) (source (c .before) (c .if2 .taken) ∙ →not-fails refl))
 
 returns-3 : tie.Need-returns-3
-unfolding steps
-returns-3 c = sym (from-unfinal _ _ (faulty (c .before) .first-fault .ensures) (omega arith) (source (c .before) (c .if2 .left)))
+returns-3 c =
+    let at = c .before .before in
+    sym (from-aborted _ _ (faulty at .first-fault .ensures) (in-log at) (source (c .before) (c .if2 .left) ∙ →fails refl))
 
 pub judge-clean-spec : {M : Type 1} → statement M
 judge-clean-spec =
     tie.close
-    (tie.spec first-fault-requires returns step-at-requires seen-requires returns-2 returns-3)
+    (tie.spec first-fault-requires returns step-at-requires takes-part-requires returns-2 returns-3)

@@ -12,26 +12,29 @@ entry c = c .before .before .before .before
 -- nothing turns the call away
 passed : (c : tie.After-enum-told) → let start = entry (c .before .before) in Admitted (log-refusal (start .args .log .now)) (start .args .work .now) (start .args .witness .now)
 unfolding work-refusal witness-refusal
-passed c = admitted _ _ _ (c .before .before .admit-witness .ensures) (c .enum-told .given .1)
+passed c = admitted _ _ _ (c .before .before .admit-witness .ensures .says) (c .enum-told .given .1)
 
 admit-witness-requires : tie.Need-admit-witness-requires
 admit-witness-requires c κs = search needs
 
-enum-known-admitted : tie.Need-enum-known-admitted
-enum-known-admitted c = search needs
+enum-known-checked : tie.Need-enum-known-checked
+enum-known-checked c = search needs
 
 enum-told : tie.Need-enum-told
 enum-told c = search needs
 
+committed-ones-requires : tie.Need-committed-ones-requires
+committed-ones-requires c κs = passed (c .before .before) .well
+
 judge-conflict-requires : tie.Need-judge-conflict-requires
-judge-conflict-requires c κs = passed (c .before .before) .well
+judge-conflict-requires c κs = (passed (c .before .before .before) .well, c .committed-ones .ensures)
 
 leave-requires : tie.Need-leave-requires
-leave-requires c κs = passed (c .before .before .before) .witness-size
+leave-requires c κs = passed (c .before .before .before .before) .witness-size
 
 returns : tie.Need-returns
 unfolding work-refusal witness-refusal
-returns c = call-refused _ _ _ (c .before .before .before .admit-witness .ensures) _ (c .before .admitted .given .1)
+returns c = call-refused _ _ _ (c .before .before .before .admit-witness .ensures .says) _ (c .before .checked .given .1)
 
 same-length : tie.Need-same-length
 same-length c = search needs
@@ -42,15 +45,16 @@ same-length-2 c = search needs
 returns-2 : tie.Need-returns-2
 returns-2 c =
     let found = c .before .before .before .before .before in
-    call-left (passed (found .before .before .before)) (found .judge-conflict .ensures) (c .before .before .before .before .leave .ensures)
+    call-left (passed (found .before .before .before .before)) (found .judge-conflict .ensures) (c .before .before .before .before .leave .ensures)
 
 pub conflict-spec : {M : Type 1} → statement M
 conflict-spec =
     tie.close
     (tie.spec
     admit-witness-requires
-    enum-known-admitted
+    enum-known-checked
     enum-told
+    committed-ones-requires
     judge-conflict-requires
     leave-requires
     returns

@@ -7,25 +7,22 @@ use borrow.Author.Needs.{needs}
 use Rattle.verdict.proofs.conflict_graph.judge_conflict.Statement.{statement}
 use Rattle.verdict.proofs.conflict_graph.judge_conflict.Tie as tie
 
--- where it is known who committed, from where the edges are to be drawn
-abbrev marking : tie.After-part → tie.After-committed-ones
-marking c = c .before .before
-
-committed-ones-requires : tie.Need-committed-ones-requires
-committed-ones-requires c κs = search needs
+-- the entry, from where the edges are to be drawn
+abbrev entry : tie.After-part → tie.Start
+entry c = c .before .before .before
 
 slice-aggregate-draw : tie.Need-slice-aggregate-draw
 slice-aggregate-draw c = search needs
 
 draw-requires : tie.Need-draw-requires
 unfolding zeros
-draw-requires c κs = (marking c .before .before .pre, marking c .committed-ones .ensures, no-edges refl)
+draw-requires c κs = let q = entry c .pre in (q .0, q .1, no-edges refl)
 
 show-requires : tie.Need-show-requires
 show-requires c κs = search needs
 
 returns : tie.Need-returns
-returns c = let drawn = c .before .before .before in conflict-holds (marking (drawn .before) .committed-ones .ensures) (drawn .draw .ensures) (c .show .ensures)
+returns c = let drawn = c .before .before .before in conflict-holds (entry (drawn .before) .pre .1) (drawn .draw .ensures) (c .show .ensures)
 
 pub judge-conflict-spec : {M : Type 1} → statement M
-judge-conflict-spec = tie.close (tie.spec committed-ones-requires slice-aggregate-draw draw-requires show-requires returns)
+judge-conflict-spec = tie.close (tie.spec slice-aggregate-draw draw-requires show-requires returns)

@@ -34,7 +34,7 @@ enum-told : tie.Need-enum-told
 enum-told c = search needs
 
 judge-search-requires : tie.Need-judge-search-requires
-judge-search-requires c κs = let q = entry (c .before .before) .pre in (q .0, q .1, search-few _ (few c))
+judge-search-requires c κs = let q = entry (c .before .before) .pre in (q .0, q .1, search-few _ (few c), q .2, q .3)
 
 returns-2 : tie.Need-returns-2
 returns-2 c = let p = c .before in searched _ (few (p .before)) refl (p .judge-search .ensures)

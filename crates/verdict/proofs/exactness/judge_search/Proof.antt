@@ -27,7 +27,7 @@ enum-told : tie.Need-enum-told
 enum-told c = search needs
 
 find-order-requires : tie.Need-find-order-requires
-find-order-requires c κs = let q = entry-clean c .pre in (q .0, cleanness-clean _ (sym (q .1) ∙ c .enum-told .given .1), q .2)
+find-order-requires c κs = let q = entry-clean c .pre in (q .0, cleanness-clean _ (sym (q .1) ∙ c .enum-told .given .1), q .2, q .3, q .4)
 
 returns-2 : tie.Need-returns-2
 returns-2 c = c .find-order .ensures

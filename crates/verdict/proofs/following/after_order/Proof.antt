@@ -1,30 +1,25 @@
 -- `after_order` meets its contract.
 use mathlib.Core.Path.{refl, sym, _∙_}
 use borrow.Author.Needs.{needs}
-use Rattle.words.specs.Lists.{zeros}
 use Rattle.words.proofs.Truth.{to-false}
 use Rattle.verdict.specs.Inner.Following.{not-listed}
 use Rattle.verdict.proofs.Cleanly.{cleanness-clean, clean-cleanness, clean≢unclean}
-use Rattle.verdict.proofs.Matrices.{no-edges}
 use Rattle.verdict.proofs.HandedIn.{not-clean}
 use Rattle.verdict.proofs.following.after_order.Statement.{statement}
 use Rattle.verdict.proofs.following.after_order.Tie as tie
 
--- the entry, the clean verdict, and the marks of the committed, each from where the next is known
-abbrev entry : tie.After-judge-clean → tie.Start
-entry c = c .before .before .before
+-- the entry, who committed, and the clean verdict, each from where the next is known
+abbrev entry : tie.After-committed-ones → tie.Start
+entry c = c .before .before .before .before
+
+abbrev part-known : tie.After-judge-clean → tie.After-committed-ones
+part-known c = c .before .before
 
 abbrev judged : tie.After-enum-told2 → tie.After-judge-clean
 judged c = c .before .before
 
-abbrev clean-known : tie.After-committed-ones → tie.After-enum-told2
-clean-known c = c .before
-
-abbrev part-known : tie.After-part → tie.After-committed-ones
-part-known c = c .before .before
-
-abbrev drawn : tie.After-matrix3 → tie.After-draw
-drawn c = c .before .before
+committed-ones-requires : tie.Need-committed-ones-requires
+committed-ones-requires c κs = search needs
 
 judge-clean-requires : tie.Need-judge-clean-requires
 judge-clean-requires c κs = search needs
@@ -45,38 +40,30 @@ returns c =
 enum-told-2 : tie.Need-enum-told-2
 enum-told-2 c = search needs
 
-committed-ones-requires : tie.Need-committed-ones-requires
-committed-ones-requires c κs = entry (judged c) .pre
+next-writers-requires : tie.Need-next-writers-requires
+next-writers-requires c κs = let q = entry (part-known (judged (c .before .before))) .pre in (q .0, q .1, refl)
 
-slice-aggregate-draw : tie.Need-slice-aggregate-draw
-slice-aggregate-draw c = search needs
-
-draw-requires : tie.Need-draw-requires
-unfolding zeros
-draw-requires c κs = let p = part-known c in (entry (judged (clean-known p)) .pre, p .committed-ones .ensures, no-edges refl)
-
-follow-requires : tie.Need-follow-requires
-follow-requires c κs =
-    let d = drawn c in
-    let p = part-known (d .before) in
-    let k = clean-known p in
-    let j = judged k in
-    (entry j .pre, cleanness-clean _ (sym (j .judge-clean .ensures) ∙ k .enum-told2 .given .1), p .committed-ones .ensures, d .draw .ensures)
+in-version-graph-requires : tie.Need-in-version-graph-requires
+in-version-graph-requires c κs =
+    let next = c .before in
+    let told = next .before .before .before in
+    let j = judged told in
+    let p = part-known j in
+    (entry p .pre .0, cleanness-clean _ (sym (j .judge-clean .ensures) ∙ told .enum-told2 .given .1), p .committed-ones .ensures, next .next-writers .ensures)
 
 returns-2 : tie.Need-returns-2
-returns-2 c = c .follow .ensures
+returns-2 c = c .in-version-graph .ensures
 
 pub after-order-spec : {M : Type 1} → statement M
 after-order-spec =
     tie.close
     (tie.spec
+    committed-ones-requires
     judge-clean-requires
     enum-told
     not-listed-requires
     returns
     enum-told-2
-    committed-ones-requires
-    slice-aggregate-draw
-    draw-requires
-    follow-requires
+    next-writers-requires
+    in-version-graph-requires
     returns-2)

@@ -3,6 +3,7 @@ use mathlib.Core.Path.{sym}
 use borrow.Author.Needs.{needs}
 use Rattle.verdict.specs.Refusal.{_else-try_, log-refusal, work-refusal, witness-refusal, order-refusal}
 use Rattle.verdict.proofs.WellFormed.{else-try→}
+use Rattle.verdict.proofs.Examining.{marks-of}
 use Rattle.verdict.proofs.Frame.{Admitted, admitted, else-assoc, refused-early, refused-later, admitted-later, call-left}
 use Rattle.verdict.proofs.NextLaws.{comes-refused, comes-next}
 use Rattle.verdict.proofs.following.next.Statement.{statement}
@@ -12,11 +13,14 @@ use Rattle.verdict.proofs.following.next.Tie as tie
 abbrev entry : tie.After-admit-order → tie.Start
 entry c = c .before .before .before .before .before
 
+abbrev looked-at : tie.After-enum-told → tie.After-admit-order
+looked-at c = c .before .before
+
 -- nothing but 14 may turn the call away
-passed : (c : tie.After-enum-told) → let start = entry (c .before .before) in
+passed : (c : tie.After-enum-told) → let start = entry (looked-at c) in
     Admitted (order-refusal (start .args .order .now) else-try log-refusal (start .args .log .now)) (start .args .work .now) (start .args .witness .now)
 unfolding work-refusal witness-refusal order-refusal
-passed c = admitted _ _ _ (c .before .before .admit-order .ensures) (c .enum-told .given .1)
+passed c = admitted _ _ _ (looked-at c .admit-order .ensures .says) (c .enum-told .given .1)
 
 -- what comes after the order, from where 14 is known not to apply; and before it the check
 abbrev following : tie.After-enum-told2 → tie.After-after-order
@@ -28,18 +32,20 @@ checked c = c .before
 admit-order-requires : tie.Need-admit-order-requires
 admit-order-requires c κs = search needs
 
-enum-known-admitted : tie.Need-enum-known-admitted
-enum-known-admitted c = search needs
+enum-known-refused : tie.Need-enum-known-refused
+enum-known-refused c = search needs
 
 returns : tie.Need-returns
 unfolding work-refusal witness-refusal order-refusal
-returns c = refused-early _ _ (sym (else-assoc _ _ _)) _ (c .before .before .before .admit-order .ensures) (c .before .admitted .given .1)
+returns c =
+    let known = c .before in
+    refused-early _ _ (sym (else-assoc _ _ _)) _ (known .before .before .admit-order .ensures .says) (known .refused .given .1)
 
 enum-told : tie.Need-enum-told
 enum-told c = search needs
 
 after-order-requires : tie.Need-after-order-requires
-after-order-requires c κs = else-try→ (passed c .well) .1
+after-order-requires c κs = (else-try→ (passed c .well) .1, marks-of (looked-at c .admit-order .ensures) (c .enum-told .given .1))
 
 enum-known-checked : tie.Need-enum-known-checked
 enum-known-checked c = search needs
@@ -75,7 +81,7 @@ next-spec =
     tie.close
     (tie.spec
     admit-order-requires
-    enum-known-admitted
+    enum-known-refused
     returns
     enum-told
     after-order-requires

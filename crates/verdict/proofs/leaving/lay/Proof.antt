@@ -5,7 +5,7 @@ use native.Mathlib.Omega.{arith}
 use borrow.Author.Needs.{needs}
 use lib.ListN.{length, getD}
 use Rattle.verdict.specs.Limits.{witness-entries}
-use Rattle.verdict.proofs.Tables.{Filled, filled-none, filled-more, filled-copy}
+use Rattle.verdict.proofs.Filled.{Filled, filled-none, filled-more, filled-copy}
 use Rattle.verdict.proofs.leaving.lay.Statement.{statement}
 use Rattle.verdict.proofs.leaving.lay.Tie as tie
 

@@ -9,7 +9,9 @@ use Rattle.verdict.specs.Inner.Checking.{Noted}
 use Rattle.verdict.specs.declared.answers.Checked.the-variants.{Passed}
 use Rattle.verdict.proofs.Refused.{numbered-some, numbered-none, tried-refused, tried-passed, tried-none, tried-first}
 use Rattle.verdict.proofs.WellFormed.{step-within}
+use Rattle.verdict.proofs.Examining.{examined-away}
 use Rattle.verdict.proofs.Noting.{noted-none, open-marked}
+use Rattle.verdict.proofs.WriteMarks.{all-written}
 use Rattle.verdict.proofs.refusal.check_steps.Statement.{statement}
 use Rattle.verdict.proofs.refusal.check_steps.Tie as tie
 
@@ -32,16 +34,20 @@ passed c = sym (c .before .step-number .ensures) ∙ numbered-none _ _ (c .if1 .
 
 loop-holds : tie.Need-loop-holds Inv-loop μ-loop
 unfolding tried
-loop-holds c = (omega arith, c .before .pre, refl, noted-none _ 129 8256 refl refl)
+loop-holds c = (omega arith, c .before .pre, refl, noted-none _ 129 refl)
 
 step-number-requires : tie.Need-step-number-requires Inv-loop μ-loop
 unfolding steps
 step-number-requires c κs = (omega arith, head c .loop .inv .3)
 
+turned-away-requires : tie.Need-turned-away-requires Inv-loop μ-loop
+turned-away-requires c κs = search needs
+
 returns : tie.Need-returns Inv-loop μ-loop
 returns c =
-    let loop = head (c .before .before) .loop in
-    sym (tried-refused _ (tried-first _ (loop .i) (omega arith) (loop .inv .2) (sym (c .before .step-number .ensures) ∙ numbered-some _ _ (c .if1 .taken))))
+    let told = c .before .before in
+    let loop = head (told .before) .loop in
+    examined-away (c .turned-away .ensures) (tried-refused _ (tried-first _ (loop .i) (omega arith) (loop .inv .2) (sym (told .step-number .ensures) ∙ numbered-some _ _ (c .before .if1 .taken))))
 
 note-step-requires : tie.Need-note-step-requires Inv-loop μ-loop
 unfolding steps
@@ -65,7 +71,11 @@ returns-2 : tie.Need-returns-2 Inv-loop μ-loop
 returns-2 c =
     let at = c .before .before .before .before in
     let e : at .loop .i ≡ at .before .before .args .n = omega arith in
-    c .check-open .ensures ∙ open-marked _ (rw (e, at .loop .inv .1) at (at .loop .inv .3)) ∙ sym (tried-passed _ (rw e at (at .loop .inv .2)))
+    let noted = rw (e, at .loop .inv .1) at (at .loop .inv .3) in
+    record {
+      says = c .check-open .ensures ∙ open-marked _ noted ∙ sym (tried-passed _ (rw e at (at .loop .inv .2)));
+      marks = λ _. all-written _ (noted .has-written);
+    }
 
 pub check-steps-spec : {M : Type 1} → statement M
 check-steps-spec =
@@ -75,6 +85,7 @@ check-steps-spec =
     μ-loop
     loop-holds
     step-number-requires
+    turned-away-requires
     returns
     note-step-requires
     add-i

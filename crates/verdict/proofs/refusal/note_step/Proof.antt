@@ -4,6 +4,7 @@ use mathlib.Core.Logic.{inl, inr}
 use Prim.Native.Nat.{_≤_, _<_}
 use native.Mathlib.Omega.{arith}
 use borrow.Author.Needs.{needs}
+use Rattle.words.proofs.Truth.{→below, if-true}
 use Rattle.verdict.specs.Limits.{transactions, objects}
 use Rattle.verdict.specs.Log.{kind, tx, obj}
 use Rattle.verdict.proofs.WellFormed.{tx-within, object-within}
@@ -65,17 +66,26 @@ returns c =
 index-requires-2 : tie.Need-index-requires-2
 index-requires-2 c κs = search needs
 
-mul-writes : tie.Need-mul-writes
-mul-writes c = search needs
+mul-with-mark : tie.Need-mul-with-mark
+mul-with-mark c = omega (arith, mark-in (written c))
 
-add-writes : tie.Need-add-writes
-add-writes c = search needs
+element-copy-out-with-mark : tie.Need-element-copy-out-with-mark
+element-copy-out-with-mark c = mark-in (written c)
+
+with-mark-requires : tie.Need-with-mark-requires
+with-mark-requires c κs = search needs
+
+mul-writes : tie.Need-mul-writes
+mul-writes c = omega (arith, mark-in (written (c .before .before)))
 
 element-write-writes : tie.Need-element-write-writes
-element-write-writes c = omega (arith, tx-is (written c), tx-in (written c), object-is c, object-in c)
+element-write-writes c = mark-in (written (c .before .before))
 
 returns-2 : tie.Need-returns-2
-returns-2 c = rw (tx-is (written c), object-is c) (note-write _ _ (entry (written c) .pre .2) (is-write c) (object-in c) (tx-in (written c)))
+returns-2 c =
+    let here = c .before .before in
+    rw (c .with-mark .ensures, tx-is (written here), object-is here, if-true _ _ (→below (object-in here)))
+    (note-write _ _ (entry (written here) .pre .2) (is-write here) (object-in here) (tx-in (written here)))
 
 element-write-ends : tie.Need-element-write-ends
 element-write-ends c = mark-in (read (no-begin (c .before .before)))
@@ -110,8 +120,10 @@ note-step-spec =
     element-write-begins
     returns
     index-requires-2
+    mul-with-mark
+    element-copy-out-with-mark
+    with-mark-requires
     mul-writes
-    add-writes
     element-write-writes
     returns-2
     element-write-ends

@@ -42,15 +42,15 @@ there : (c : tie.Joined2) → let a = entry (c .before) .args in (src (a .log .n
 there c =
     let here = c .before in
     let step = read here .step-at .ensures in
-    ⊎-elim (λ w. inr (by-pair _ _ _ (entry here .pre .2) (source-in here) (object-in here) (step .src-is) (step .obj-is) (w .1 .ensures) (not-false _ (w .2 .left))))
+    ⊎-elim (λ w. inr (by-pair _ _ (entry here .pre .2) (source-in here) (object-in here) (step .src-is) (step .obj-is) (w .1 .ensures) (not-false _ (w .2 .left))))
     (λ w. inl (sym (step .src-is) ∙ w .left)) (c .if2 .came)
 
 -- whether the reader wrote the object, and whether it names another source
-own-write : (c : tie.After-pair-marked2) {v : Bool} → c .pair-marked2 .result ≡ v → let a = entry (c .before .before .before) .args in wrote (a .log .now) (a .i) (tx (a .log .now) (a .i)) (obj (a .log .now) (a .i)) ≡ v
+own-write : (c : tie.After-object-marked2) {v : Bool} → c .object-marked2 .result ≡ v → let a = entry (c .before .before .before) .args in wrote (a .log .now) (a .i) (tx (a .log .now) (a .i)) (obj (a .log .now) (a .i)) ≡ v
 own-write c q =
     let here = c .before .before .before in
     let step = read here .step-at .ensures in
-    by-pair _ _ _ (entry here .pre .2) (tx-in here) (object-in here) (step .tx-is) (step .obj-is) (c .pair-marked2 .ensures) q
+    by-pair _ _ (entry here .pre .2) (tx-in here) (object-in here) (step .tx-is) (step .obj-is) (c .object-marked2 .ensures) q
 
 step-at-requires : tie.Need-step-at-requires
 step-at-requires c κs = search needs
@@ -59,23 +59,18 @@ returns : tie.Need-returns
 unfolding numbered _at_when_ fails _is_
 returns c = sym (no-read _ _ (λ e. c .if1 .taken (c .before .before .step-at .ensures .kind-is ∙ e)))
 
-pair-marked-requires : tie.Need-pair-marked-requires
-pair-marked-requires c κs =
-    let step = read (c .before) .step-at .ensures in
-    (omega (arith, step .src-is, source-in (c .before)), omega (arith, step .obj-is, object-in (c .before)))
+object-marked-requires : tie.Need-object-marked-requires
+object-marked-requires c κs = omega (arith, read (c .before) .step-at .ensures .src-is, source-in (c .before))
 
 returns-2 : tie.Need-returns-2
 unfolding numbered _at_when_ fails _is_
 returns-2 c =
     let here = c .before .before .before in
     let step = read here .step-at .ensures in
-    sym (never-wrote _ _ (is-read here) (λ e. c .before .before .if2 .taken (step .src-is ∙ e)) (by-pair _ _ _ (entry here .pre .2) (source-in here) (object-in here) (step .src-is) (step .obj-is) (c .before .pair-marked .ensures) (not-true _ (c .if3 .taken))))
+    sym (never-wrote _ _ (is-read here) (λ e. c .before .before .if2 .taken (step .src-is ∙ e)) (by-pair _ _ (entry here .pre .2) (source-in here) (object-in here) (step .src-is) (step .obj-is) (c .before .object-marked .ensures) (not-true _ (c .if3 .taken))))
 
-pair-marked-requires-2 : tie.Need-pair-marked-requires-2
-pair-marked-requires-2 c κs =
-    let here = c .before .before in
-    let step = read here .step-at .ensures in
-    (omega (arith, step .tx-is, tx-in here), omega (arith, step .obj-is, object-in here))
+object-marked-requires-2 : tie.Need-object-marked-requires-2
+object-marked-requires-2 c κs = let here = c .before .before in omega (arith, read here .step-at .ensures .tx-is, tx-in here)
 
 returns-3 : tie.Need-returns-3
 unfolding numbered _at_when_ fails _is_
@@ -104,9 +99,9 @@ source-number-spec =
     (tie.spec
     step-at-requires
     returns
-    pair-marked-requires
+    object-marked-requires
     returns-2
-    pair-marked-requires-2
+    object-marked-requires-2
     returns-3
     returns-4
     returns-5)

@@ -1,81 +1,96 @@
 -- `fits` meets its contract.
-use mathlib.Core.Path.{_≡_, refl, sym, ap, _∙_}
+use mathlib.Core.Path.{_≡_, sym, ap, _∙_}
 use mathlib.Core.Bool.{true}
-use mathlib.Core.Logic.{⊎-elim}
-use Prim.Native.Nat.{ℕ, _+_, _-_, _*_, _≤_}
+use Prim.Native.Nat.{ℕ, _+_, _*_, _≤_, _<_}
 use native.Mathlib.Omega.{arith}
 use borrow.Author.Needs.{needs}
+use borrow.Author.Tests.{not-true, not-false}
 use lib.ListN.{getD}
-use Rattle.words.specs.Tests.{every}
+use Rattle.words.specs.Tests.{count}
+use Rattle.bits.specs.Word.{marked}
+use Rattle.bits.proofs.Walks.{turn, fewer}
 use Rattle.verdict.specs.Limits.{transactions, objects}
-use Rattle.verdict.specs.Inner.Placing.{allows}
-use Rattle.words.proofs.Truth.{not-both, to-false, →and, every→, every-next}
-use Rattle.verdict.proofs.Loosely.{allows-any, allows-it, allows-not}
+use Rattle.verdict.specs.Inner.Placing.{allows, NeededOf}
+use Rattle.verdict.proofs.NeededMarks.{Asked, asked-nothing, asked-more, asked-all, one-barred}
 use Rattle.verdict.proofs.search.fits.Statement.{statement}
 use Rattle.verdict.proofs.search.fits.Tie as tie
 
 abbrev Inv-loop : tie.InvT-loop
-Inv-loop need last t row x₀ x = (x ≤ objects) × (row ≡ t * objects) × (t ≤ transactions) × (every x (λ y. allows (getD need (t * objects + y) 0) (getD last y 0)) ≡ true)
+Inv-loop need marks last t row left₀ left = (row ≡ t * objects) × (t ≤ transactions) × NeededOf need t marks × Asked need last t marks left
 
 abbrev μ-loop : tie.MeasureT-loop
-μ-loop need last t row x₀ x = objects - x
+μ-loop need marks last t row left₀ left = count 64 (marked left)
 
--- the turn, from where its need and its last writer are read
-abbrev turn : tie.After-v Inv-loop μ-loop → tie.At-loop Inv-loop μ-loop
-turn c = c .before .before .before
+-- the head of the walk, from where the object whose turn it is is known
+abbrev head : tie.After-lowest-mark Inv-loop μ-loop → tie.At-loop Inv-loop μ-loop
+head c = c .before .before .before
+
+-- it is marked
+object : (c : tie.After-lowest-mark Inv-loop μ-loop) → (c .lowest-mark .result < 64) × (marked (head c .loop .left) (c .lowest-mark .result) ≡ true)
+object c = turn _ (sym (c .before .before .any-mark .ensures) ∙ c .before .if1 .taken) (c .lowest-mark .ensures)
+
+-- whether the need allows what was last written of it, from where that is told
+abbrev asked-of : tie.After-allows Inv-loop μ-loop → tie.After-lowest-mark Inv-loop μ-loop
+asked-of c = c .before .before .before
+
+told : (c : tie.After-allows Inv-loop μ-loop) → let at = asked-of c in let a = head at .before .before .args in
+    c .allows .result ≡ allows (getD (a .need .now) (a .t * objects + at .lowest-mark .result) 0) (getD (a .last .now) (at .lowest-mark .result) 0)
+told c = rw (head (asked-of c) .loop .inv .0) at (c .allows .ensures)
 
 index-requires : tie.Need-index-requires Inv-loop μ-loop
 index-requires c κs = search needs
 
 mul-row : tie.Need-mul-row Inv-loop μ-loop
-mul-row c = omega (arith, c .index .ensures, c .before .pre)
+mul-row c = omega (arith, c .index .ensures, c .before .pre .0)
 
 loop-holds : tie.Need-loop-holds Inv-loop μ-loop
-unfolding every
-loop-holds c = (omega arith, ap (λ (n : ℕ). n * 64) (c .index .ensures), c .before .pre, refl)
+loop-holds c = (ap (λ (n : ℕ). n * 64) (c .index .ensures), c .before .pre .0, c .before .pre .1, asked-nothing _ _ _ _)
 
-add-e : tie.Need-add-e Inv-loop μ-loop
-add-e c = omega arith
+any-mark-requires : tie.Need-any-mark-requires Inv-loop μ-loop
+any-mark-requires c κs = search needs
 
-mul-e : tie.Need-mul-e Inv-loop μ-loop
-mul-e c = omega arith
+lowest-mark-requires : tie.Need-lowest-mark-requires Inv-loop μ-loop
+lowest-mark-requires c κs = search needs
 
-element-copy-out-e : tie.Need-element-copy-out-e Inv-loop μ-loop
-element-copy-out-e c = omega arith
+add-allows : tie.Need-add-allows Inv-loop μ-loop
+add-allows c = let inv = head c .loop .inv in omega (arith, object c .0, inv .0, inv .1)
 
-mul-v : tie.Need-mul-v Inv-loop μ-loop
-mul-v c = omega arith
+mul-allows : tie.Need-mul-allows Inv-loop μ-loop
+mul-allows c = let inv = head c .loop .inv in omega (arith, object c .0, inv .0, inv .1)
 
-element-copy-out-v : tie.Need-element-copy-out-v Inv-loop μ-loop
-element-copy-out-v c = omega arith
+element-copy-out-allows : tie.Need-element-copy-out-allows Inv-loop μ-loop
+element-copy-out-allows c = let inv = head c .loop .inv in omega (arith, object c .0, inv .0, inv .1)
 
-sub-if2 : tie.Need-sub-if2 Inv-loop μ-loop
-sub-if2 c = omega arith
+mul-allows-2 : tie.Need-mul-allows-2 Inv-loop μ-loop
+mul-allows-2 c = omega (arith, object (c .before) .0)
+
+element-copy-out-allows-2 : tie.Need-element-copy-out-allows-2 Inv-loop μ-loop
+element-copy-out-allows-2 c = object (c .before) .0
+
+allows-requires : tie.Need-allows-requires Inv-loop μ-loop
+allows-requires c κs = search needs
 
 returns : tie.Need-returns Inv-loop μ-loop
 returns c =
-    let at = turn (c .before .before) in
-    let row = at .loop .inv .1 in
-    sym (to-false _ (λ h. not-both (every→ _ h (at .loop .x) (omega arith)) (allows-not _ (rw row at (c .before .if1 .taken)) (rw row at (c .if2 .taken)))))
+    let call = c .before in
+    let at = asked-of call in
+    let a = head at .before .before .args in
+    sym (one-barred (a .need .now) (a .last .now) (a .t) (at .lowest-mark .result) (object at .0) (sym (told call) ∙ not-true _ (c .if2 .taken)))
 
-add-x : tie.Need-add-x Inv-loop μ-loop
-add-x c = omega arith
+without-mark-requires : tie.Need-without-mark-requires Inv-loop μ-loop
+without-mark-requires c κs = search needs
 
 loop-less : tie.Need-loop-less Inv-loop μ-loop
-loop-less c = omega arith
+loop-less c = let here = asked-of (c .before .before) in rw (c .without-mark .ensures) (fewer _ _ (object here .0) (object here .1))
 
 loop-again : tie.Need-loop-again Inv-loop μ-loop
 loop-again c =
-    let inv = turn (c .before) .loop .inv in (
-      omega arith,
-      inv .1,
-      inv .2,
-      every-next _ _ ∙ →and (inv .3)
-          (⊎-elim (λ w. allows-it _ (rw (inv .1) at (w .0 .taken)) (rw (inv .1) at (w .1 .left))) (λ w. allows-any _ (rw (inv .1) at (w .left))) (c .if1 .came)),
-    )
+    let call = c .before .before in
+    let inv = head (asked-of call) .loop .inv in
+    (inv .0, inv .1, inv .2, rw (c .without-mark .ensures) (asked-more (inv .3) _ (sym (told call) ∙ not-false _ (c .before .if2 .left))))
 
 returns-2 : tie.Need-returns-2 Inv-loop μ-loop
-returns-2 c = let e : c .before .loop .x ≡ 64 = omega arith in sym (rw e at (c .before .loop .inv .3))
+returns-2 c = let inv = c .before .before .loop .inv in sym (asked-all (inv .3) (inv .2) (sym (c .before .any-mark .ensures) ∙ c .if1 .left))
 
 pub fits-spec : {M : Type 1} → statement M
 fits-spec =
@@ -86,14 +101,16 @@ fits-spec =
     index-requires
     mul-row
     loop-holds
-    add-e
-    mul-e
-    element-copy-out-e
-    mul-v
-    element-copy-out-v
-    sub-if2
+    any-mark-requires
+    lowest-mark-requires
+    add-allows
+    mul-allows
+    element-copy-out-allows
+    mul-allows-2
+    element-copy-out-allows-2
+    allows-requires
     returns
-    add-x
+    without-mark-requires
     loop-less
     loop-again
     returns-2)

@@ -2,14 +2,14 @@
 use mathlib.Core.Path.{_≡_, refl, sym, _∙_}
 use mathlib.Core.Bool.{true}
 use mathlib.Core.Logic.{inl, ⊎-elim}
-use Prim.Native.Nat.{suc, _+_, _-_, _*_, _/_, _≤_, _<_}
+use Prim.Native.Nat.{_+_, _-_, _*_, _/_, _≤_, _<_}
 use native.Mathlib.Omega.{arith}
 use borrow.Author.Needs.{needs}
 use lib.ListN.{length}
 use Rattle.verdict.specs.Limits.{transactions, objects}
-use Rattle.verdict.specs.Log.{steps, tx, obj, src, committed}
+use Rattle.verdict.specs.Log.{steps, tx, obj, src}
 use Rattle.verdict.specs.Refusal.{log-refusal}
-use Rattle.verdict.specs.Inner.Marks.{Marked}
+use Rattle.verdict.specs.Inner.Marks.{Committed}
 use Rattle.verdict.specs.declared.answers.Checked.the-variants.{Passed}
 use Rattle.verdict.proofs.WellFormed.{well-formed}
 use Rattle.verdict.proofs.JudgedReads.{is-read}
@@ -18,10 +18,10 @@ use Rattle.verdict.proofs.search.need_table.Statement.{statement}
 use Rattle.verdict.proofs.search.need_table.Tie as tie
 
 abbrev Inv-loop : tie.InvT-loop
-Inv-loop log marks n table₀ i₀ table i = (n ≡ length log / 4) × (i ≤ n) × (log-refusal log ≡ Passed) × Marked (suc transactions) (committed log) marks × Needed log i table
+Inv-loop log part n table₀ i₀ table i = (n ≡ length log / 4) × (i ≤ n) × (log-refusal log ≡ Passed) × Committed log part × Needed log i table
 
 abbrev μ-loop : tie.MeasureT-loop
-μ-loop log marks n table₀ i₀ table i = n - i
+μ-loop log part n table₀ i₀ table i = n - i
 
 -- the head of the loop and the entry, from where the step is asked about
 abbrev head : tie.After-judged-other Inv-loop μ-loop → tie.At-loop Inv-loop μ-loop

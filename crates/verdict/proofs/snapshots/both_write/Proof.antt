@@ -1,25 +1,23 @@
 -- `both_write` meets its contract.
-use mathlib.Core.Path.{sym}
+use mathlib.Core.Path.{sym, _∙_}
 use borrow.Author.Needs.{needs}
-use Rattle.words.proofs.Truth.{→and, and-no-left, and-no-right, →fails, →not-fails, →is, →isnt}
+use borrow.Author.Tests.{not-true, not-false}
+use Rattle.words.proofs.Truth.{and-true, and-no-left}
 use Rattle.verdict.proofs.snapshots.both_write.Statement.{statement}
 use Rattle.verdict.proofs.snapshots.both_write.Tie as tie
 
-element-copy-out-if1 : tie.Need-element-copy-out-if1
-element-copy-out-if1 c = search needs
+object-marked-requires : tie.Need-object-marked-requires
+object-marked-requires c κs = search needs
 
 returns : tie.Need-returns
-returns c = sym (and-no-left _ (→not-fails (→is (c .if1 .taken))))
+returns c = sym (and-no-left _ (sym (c .before .object-marked .ensures) ∙ not-true _ (c .if1 .taken)))
 
-element-copy-out-if2 : tie.Need-element-copy-out-if2
-element-copy-out-if2 c = search needs
+object-marked-requires-2 : tie.Need-object-marked-requires-2
+object-marked-requires-2 c κs = search needs
 
 returns-2 : tie.Need-returns-2
-returns-2 c = sym (and-no-right _ (→not-fails (→is (c .if2 .taken))))
-
-returns-3 : tie.Need-returns-3
-returns-3 c = sym (→and (→fails (→isnt (c .before .before .if1 .left))) (→fails (→isnt (c .if2 .left))))
+returns-2 c = c .object-marked2 .ensures ∙ sym (and-true (sym (c .before .before .object-marked .ensures) ∙ not-false _ (c .before .if1 .left)))
 
 pub both-write-spec : {M : Type 1} → statement M
 both-write-spec =
-    tie.close (tie.spec element-copy-out-if1 returns element-copy-out-if2 returns-2 returns-3)
+    tie.close (tie.spec object-marked-requires returns object-marked-requires-2 returns-2)

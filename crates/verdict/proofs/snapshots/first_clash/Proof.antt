@@ -1,88 +1,159 @@
 -- `first_clash` meets its contract.
-use mathlib.Core.Path.{_≡_, refl, sym, _∙_}
-use mathlib.Core.Bool.{false}
+use mathlib.Core.Path.{_≡_, refl, sym, ap, _∙_}
+use mathlib.Core.Bool.{Bool, false}
 use mathlib.Core.Logic.{⊎-elim}
-use Prim.Native.Nat.{_-_, _/_, _≤_}
+use Prim.Native.Nat.{_+_, _-_, _≤_, _<_}
 use native.Mathlib.Omega.{arith}
 use borrow.Author.Needs.{needs}
-use lib.ListN.{length, getD}
-use Rattle.words.specs.Tests.{_is_, _and_, fails, some}
-use Rattle.words.proofs.Truth.{none→, →none, none-next}
+use lib.ListN.{getD}
+use Rattle.words.specs.Tests.{_and_, some}
+use Rattle.words.proofs.Truth.{not-both, →none, none-next}
+use Rattle.bits.specs.Word.{marked}
 use Rattle.verdict.specs.Limits.{transactions}
 use Rattle.verdict.specs.Log.{steps}
-use Rattle.verdict.specs.Refusal.{log-refusal}
-use Rattle.verdict.specs.Snapshot.{clash, wrong-commit}
-use Rattle.verdict.specs.Inner.Marks.{FirstSteps}
-use Rattle.verdict.specs.declared.answers.Checked.the-variants.{Passed}
-use Rattle.verdict.proofs.WellFormed.{well-formed}
-use Rattle.verdict.proofs.SnapshotLaws.{no-commit, shared-object, no-shared-object, clash-found, no-clash}
-use Rattle.verdict.proofs.Marks.{marked-both}
+use Rattle.verdict.specs.Snapshot.{snapshot-step, clash, wrong-commit}
+use Rattle.verdict.proofs.WellFormed.{Well, well-formed, steps-within}
+use Rattle.verdict.proofs.SnapshotLaws.{no-commit, begins-within, begin-at, clash-found, no-clash}
+use Rattle.verdict.proofs.Clashing.{LastCommits, both-marked, nobody-yet, other-step, commit-more, none-since}
 use Rattle.verdict.proofs.snapshots.first_clash.Statement.{statement}
 use Rattle.verdict.proofs.snapshots.first_clash.Tie as tie
 
 abbrev Inv-loop2 : tie.InvT-loop2
-Inv-loop2 log begins commits n j p x₀ t mine theirs x = (x ≤ 64) × (some x (λ y. fails (getD mine y 0 is 0) and fails (getD theirs y 0 is 0)) ≡ false)
+Inv-loop2 log writes begins commits k last j p x₀ t mine x = (x ≤ 64) × (some x (λ y. marked (getD writes t 0) y and marked (getD writes p 0) y) ≡ false)
 
 abbrev μ-loop2 : tie.MeasureT-loop2
-μ-loop2 log begins commits n j p x₀ t mine theirs x = 64 - x
+μ-loop2 log writes begins commits k last j p x₀ t mine x = 64 - x
 
 abbrev Inv-loop : tie.InvT-loop
-Inv-loop log begins commits n j p₀ x₀ t mine p x = (p ≤ 129) × (some p (clash log j) ≡ false)
+Inv-loop log writes begins commits k last j p₀ x₀ t mine p x = (p ≤ 129) × (some p (clash log j) ≡ false)
 
 abbrev μ-loop : tie.MeasureT-loop
-μ-loop log begins commits n j p₀ x₀ t mine p x = 129 - p
+μ-loop log writes begins commits k last j p₀ x₀ t mine p x = 129 - p
 
 abbrev Inv-search : tie.InvT-search
-Inv-search log begins commits n j₀ p₀ x₀ j p x = (n ≡ length log / 4) × (j ≤ n) × (log-refusal log ≡ Passed) × FirstSteps log 1 begins × FirstSteps log 4 commits × (some j (wrong-commit transactions log) ≡ false)
+Inv-search log writes begins commits k last₀ j₀ p₀ x₀ last j p x = (j ≤ k) × LastCommits log j last × (some j (wrong-commit transactions log) ≡ false)
 
 abbrev μ-search : tie.MeasureT-search
-μ-search log begins commits n j₀ p₀ x₀ j p x = n - j
+μ-search log writes begins commits k last₀ j₀ p₀ x₀ last j p x = k - j
 
--- the head of the search, from where a step is read
+-- the head of the search and the entry, from where a step is read
 abbrev head : tie.After-struct-known Inv-loop2 μ-loop2 Inv-loop μ-loop Inv-search μ-search → tie.At-search Inv-loop2 μ-loop2 Inv-loop μ-loop Inv-search μ-search
 head c = c .before .before .before
 
--- a step that commits, from where partners are tried
-abbrev committing : tie.At-loop Inv-loop2 μ-loop2 Inv-loop μ-loop Inv-search μ-search → tie.Then1 Inv-loop2 μ-loop2 Inv-loop μ-loop Inv-search μ-search
-committing c = c .before .before
+abbrev entry : tie.After-struct-known Inv-loop2 μ-loop2 Inv-loop μ-loop Inv-search μ-search → tie.Start Inv-loop2 μ-loop2 Inv-loop μ-loop Inv-search μ-search
+entry c = head c .before .before
 
--- a partner, from where objects are tried
-abbrev partner : tie.At-loop2 Inv-loop2 μ-loop2 Inv-loop μ-loop Inv-search μ-search → tie.At-loop Inv-loop2 μ-loop2 Inv-loop μ-loop Inv-search μ-search
-partner c = c .before .before .before .before .before
+-- the step, from where the marks of its transaction are known, and its begin
+abbrev committing : tie.After-mine Inv-loop2 μ-loop2 Inv-loop μ-loop Inv-search μ-search → tie.After-struct-known Inv-loop2 μ-loop2 Inv-loop μ-loop Inv-search μ-search
+committing c = c .before .before .before
 
-first-steps-requires : tie.Need-first-steps-requires Inv-loop2 μ-loop2 Inv-loop μ-loop Inv-search μ-search
-first-steps-requires c κs = search needs
+abbrev begun : tie.After-step-of Inv-loop2 μ-loop2 Inv-loop μ-loop Inv-search μ-search → tie.After-struct-known Inv-loop2 μ-loop2 Inv-loop μ-loop Inv-search μ-search
+begun c = committing (c .before .before)
 
-first-steps-requires-2 : tie.Need-first-steps-requires-2 Inv-loop2 μ-loop2 Inv-loop μ-loop Inv-search μ-search
-first-steps-requires-2 c κs = search needs
+-- that place, from where partners are tried; and the head of those, from where it is known whether one clashes
+abbrev trying : tie.At-loop Inv-loop2 μ-loop2 Inv-loop μ-loop Inv-search μ-search → tie.After-step-of Inv-loop2 μ-loop2 Inv-loop μ-loop Inv-search μ-search
+trying c = c .before .before .before
+
+abbrev partner : tie.After-clashes Inv-loop2 μ-loop2 Inv-loop μ-loop Inv-search μ-search → tie.At-loop Inv-loop2 μ-loop2 Inv-loop μ-loop Inv-search μ-search
+partner c = c .before .before
+
+-- what is known of the log, and of the step
+known : (c : tie.After-struct-known Inv-loop2 μ-loop2 Inv-loop μ-loop Inv-search μ-search) → Well transactions (entry c .args .log .now)
+known c = well-formed _ (entry c .pre .0)
+
+below-k : (c : tie.After-struct-known Inv-loop2 μ-loop2 Inv-loop μ-loop Inv-search μ-search) → head c .search .j < entry c .args .k
+below-k c = omega arith
+
+in-log : (c : tie.After-struct-known Inv-loop2 μ-loop2 Inv-loop μ-loop Inv-search μ-search) → head c .search .j < steps (entry c .args .log .now)
+in-log c = omega (arith, below-k c, entry c .pre .4)
+
+tx-in : (c : tie.After-struct-known Inv-loop2 μ-loop2 Inv-loop μ-loop Inv-search μ-search) → c .before .step-at .result .tx ≤ transactions
+tx-in c = rw (c .before .step-at .ensures .tx-is) (known c .range (head c .search .j) (in-log c) .1)
+
+-- where its transaction begins
+begin-is : (c : tie.After-step-of Inv-loop2 μ-loop2 Inv-loop μ-loop Inv-search μ-search) → c .step-of .result ≡ snapshot-step (entry (begun c) .args .log .now) (begun c .before .step-at .result .tx)
+begin-is c = c .step-of .ensures ∙ begin-at _ _ (tx-in (begun c)) (entry (begun c) .pre .2)
+
+-- whether a partner clashes
+clash-is : (c : tie.After-clashes Inv-loop2 μ-loop2 Inv-loop μ-loop Inv-search μ-search) {v : Bool} → c .clashes .result ≡ v → clash (entry (begun (trying (partner c))) .args .log .now) (head (begun (trying (partner c))) .search .j) (partner c .loop .p) ≡ v
+clash-is c q = sym (c .clashes .ensures) ∙ q
+
+-- a step that was looked at: the last commits with it, and that nobody clashes at it
+module _ (c : tie.Joined1 Inv-loop2 μ-loop2 Inv-loop μ-loop Inv-search μ-search) where
+  last-then : LastCommits (entry (c .before) .args .log .now) (head (c .before) .search .j + 1) (c .if1 .last)
+  last-then =
+      let here = c .before in
+      let search = head here .search in
+      let step = here .before .step-at .ensures in
+      ⊎-elim (λ w. rw (w .8) (commit-more _ (search .j) (search .inv .1) (entry here .pre .1) (w .1 .ensures ∙ step .tx-is) (omega (arith, w .1 .ensures, tx-in here)) (sym (step .kind-is) ∙ w .0 .taken) refl (w .7 .ensures)))
+      (λ w. rw (w .1) (other-step _ (search .j) (search .inv .1) (λ e. w .0 .left (step .kind-is ∙ e)))) (c .if1 .came)
+
+  none-clash : wrong-commit transactions (entry (c .before) .args .log .now) (head (c .before) .search .j) ≡ false
+  unfolding wrong-commit
+  none-clash =
+      let here = c .before in
+      let log = entry here .args .log .now in
+      let known-of = entry here .pre in
+      let search = head here .search in
+      let step = here .before .step-at .ensures in
+      ⊎-elim
+      (λ w. ⊎-elim (λ v. let e : v .1 .p ≡ 129 = omega (arith, v .1 .inv .0, v .2 .left) in rw e at (v .1 .inv .1))
+      (λ v. →none _ (λ p h.
+      let begin = w .4 .ensures ∙ begin-at _ _ (tx-in here) (known-of .2) ∙ ap (snapshot-step log) (sym (w .1 .ensures)) in
+      none-since _ (search .j) (search .inv .1) (known-of .1) (w .1 .ensures ∙ step .tx-is) (omega (arith, w .1 .ensures, tx-in here)) (known here) begin (sym (w .5 .ensures) ∙ v .0 .left) p)) (w .6 .came))
+      (λ w. →none _ (λ p h. no-commit _ (search .j) p (λ e. w .0 .left (step .kind-is ∙ e)))) (c .if1 .came)
 
 search-holds : tie.Need-search-holds Inv-loop2 μ-loop2 Inv-loop μ-loop Inv-search μ-search
 unfolding some
-search-holds c = (refl, omega arith, c .before .before .before .pre, c .before .first-steps .ensures, c .first-steps2 .ensures, refl)
+search-holds c = (omega arith, nobody-yet _ 64 refl, refl)
 
 step-at-requires : tie.Need-step-at-requires Inv-loop2 μ-loop2 Inv-loop μ-loop Inv-search μ-search
-step-at-requires c κs = omega arith
+unfolding steps
+step-at-requires c κs = omega (arith, c .before .before .before .pre .4)
 
-written-requires : tie.Need-written-requires Inv-loop2 μ-loop2 Inv-loop μ-loop Inv-search μ-search
-written-requires c κs = head (c .before) .search .inv .2
+index-requires : tie.Need-index-requires Inv-loop2 μ-loop2 Inv-loop μ-loop Inv-search μ-search
+index-requires c κs = search needs
+
+mul-mine : tie.Need-mul-mine Inv-loop2 μ-loop2 Inv-loop μ-loop Inv-search μ-search
+mul-mine c = omega (arith, c .index .ensures, tx-in (c .before .before))
+
+element-copy-out-mine :
+    tie.Need-element-copy-out-mine Inv-loop2 μ-loop2 Inv-loop μ-loop Inv-search μ-search
+element-copy-out-mine c = omega (arith, c .index .ensures, tx-in (c .before .before))
+
+step-of-requires : tie.Need-step-of-requires Inv-loop2 μ-loop2 Inv-loop μ-loop Inv-search μ-search
+step-of-requires c κs = tx-in (committing (c .before))
+
+add-marked-above : tie.Need-add-marked-above Inv-loop2 μ-loop2 Inv-loop μ-loop Inv-search μ-search
+add-marked-above c =
+    let log = entry (begun c) .args .log .now in
+    omega (arith, begin-is c, begins-within log (begun c .before .step-at .result .tx), steps-within log (entry (begun c) .pre .0))
+
+marked-above-requires :
+    tie.Need-marked-above-requires Inv-loop2 μ-loop2 Inv-loop μ-loop Inv-search μ-search
+marked-above-requires c κs = search needs
 
 loop-holds : tie.Need-loop-holds Inv-loop2 μ-loop2 Inv-loop μ-loop Inv-search μ-search
 unfolding some
 loop-holds c = (omega arith, refl)
 
-partner-marks-requires : tie.Need-partner-marks-requires Inv-loop2 μ-loop2 Inv-loop μ-loop Inv-search μ-search
-unfolding steps
-partner-marks-requires c κs =
-    let here = committing (c .before .before .before) .before in
-    let search = head here .search in
-    (search .inv .2, search .inv .3, search .inv .4, omega arith, omega (arith, here .before .step-at .ensures .tx-is, well-formed _ (search .inv .2) .range (search .j) (omega arith) .1), omega arith)
+clashes-requires : tie.Need-clashes-requires Inv-loop2 μ-loop2 Inv-loop μ-loop Inv-search μ-search
+clashes-requires c κs =
+    let one = trying (c .before) .before .before .before .before in
+    let here = one .before in
+    let step = here .before .step-at .ensures in
+    let known-of = entry here .pre in
+    (known-of .0, known-of .1, known-of .2, known-of .3, in-log here, sym (step .kind-is) ∙ one .if1 .taken, sym (step .tx-is), tx-in here, omega arith)
 
 loop2-holds : tie.Need-loop2-holds Inv-loop2 μ-loop2 Inv-loop μ-loop Inv-search μ-search
 unfolding some
 loop2-holds c = (omega arith, refl)
 
-both-write-requires : tie.Need-both-write-requires Inv-loop2 μ-loop2 Inv-loop μ-loop Inv-search μ-search
-both-write-requires c κs = omega arith
+both-write-requires :
+    tie.Need-both-write-requires Inv-loop2 μ-loop2 Inv-loop μ-loop Inv-search μ-search
+both-write-requires c κs =
+    let tried = partner (c .before .before .before) in
+    (tx-in (begun (trying tried)), omega arith)
 
 add-x : tie.Need-add-x Inv-loop2 μ-loop2 Inv-loop μ-loop Inv-search μ-search
 add-x c = omega arith
@@ -91,7 +162,7 @@ loop2-less : tie.Need-loop2-less Inv-loop2 μ-loop2 Inv-loop μ-loop Inv-search 
 loop2-less c = omega arith
 
 loop2-again : tie.Need-loop2-again Inv-loop2 μ-loop2 Inv-loop μ-loop Inv-search μ-search
-loop2-again c = (omega arith, none-next _ _ (c .before .before .before .before .before .loop2 .inv .1) (sym (c .before .both-write .ensures) ∙ c .if2 .left))
+loop2-again c = (omega arith, none-next _ _ (c .before .before .before .loop2 .inv .1) (sym (c .before .both-write .ensures) ∙ c .if4 .left))
 
 add-p : tie.Need-add-p Inv-loop2 μ-loop2 Inv-loop μ-loop Inv-search μ-search
 add-p c = omega arith
@@ -101,14 +172,28 @@ loop-less c = omega arith
 
 loop-again : tie.Need-loop-again Inv-loop2 μ-loop2 Inv-loop μ-loop Inv-search μ-search
 loop-again c =
-    let tried = c .before in
-    let part = partner tried in
-    let here = committing part .before in
-    let e : tried .loop2 .x ≡ 64 = omega arith in (
+    let tried = partner (c .before) in
+    let here = begun (trying tried) in (
       omega arith,
-      none-next _ _ (part .loop .inv .1) (no-shared-object _ (head here .search .j) _ (here .before .step-at .ensures .tx-is) (well-formed _ (head here .search .inv .2))
-          (λ y h. sym (marked-both (part .before .written .ensures) (tried .before .partner-marks .ensures) y h) ∙ none→ _ (rw e at (tried .loop2 .inv .1)) y h)),
+      none-next _ _ (tried .loop .inv .1)
+          (⊎-elim (λ w.
+          let e : w .1 .x ≡ 64 = omega (arith, w .1 .inv .0, w .2 .left) in
+          let some-object = both-marked _ _ _ (known here) (entry here .pre .1) (here .before .step-at .ensures .tx-is) (tx-in here) (omega arith) (clash-is (c .before) (w .0 .taken)) in
+          absurd (not-both some-object (rw e at (w .1 .inv .1))))
+          (λ w. clash-is (c .before) (w .0 .left)) (c .if3 .came)),
     )
+
+add-put-marked : tie.Need-add-put-marked Inv-loop2 μ-loop2 Inv-loop μ-loop Inv-search μ-search
+add-put-marked c = omega arith
+
+cast-put-marked : tie.Need-cast-put-marked Inv-loop2 μ-loop2 Inv-loop μ-loop Inv-search μ-search
+cast-put-marked c =
+    let here = begun (c .before .before) in
+    omega (arith, in-log here, steps-within _ (entry here .pre .0))
+
+put-marked-requires :
+    tie.Need-put-marked-requires Inv-loop2 μ-loop2 Inv-loop μ-loop Inv-search μ-search
+put-marked-requires c κs = search needs
 
 add-j : tie.Need-add-j Inv-loop2 μ-loop2 Inv-loop μ-loop Inv-search μ-search
 add-j c = omega arith
@@ -117,34 +202,18 @@ search-less : tie.Need-search-less Inv-loop2 μ-loop2 Inv-loop μ-loop Inv-searc
 search-less c = omega arith
 
 search-again : tie.Need-search-again Inv-loop2 μ-loop2 Inv-loop μ-loop Inv-search μ-search
-unfolding wrong-commit
-search-again c =
-    let search = head (c .before) .search in
-    let step = c .before .before .step-at .ensures in (
-      refl,
-      omega arith,
-      search .inv .2,
-      search .inv .3,
-      search .inv .4,
-      none-next _ _ (search .inv .5)
-          (⊎-elim (λ w. let e : w .2 .p ≡ 129 = omega (arith, w .2 .inv .0, w .3 .left) in rw e at (w .2 .inv .1))
-          (λ w. →none _ (λ p h. no-commit _ (search .j) p (λ e. w .0 .left (step .kind-is ∙ e)))) (c .if1 .came)),
-    )
+search-again c = (omega arith, last-then c, none-next _ _ (head (c .before) .search .inv .2) (none-clash c))
 
 returns : tie.Need-returns Inv-loop2 μ-loop2 Inv-loop μ-loop Inv-search μ-search
-unfolding steps
-returns c = no-clash _ _ (c .before .search .inv .5) _ (omega arith)
+returns c = no-clash _ _ _ (c .before .search .inv .2) _ (omega arith)
 
 returns-2 : tie.Need-returns-2 Inv-loop2 μ-loop2 Inv-loop μ-loop Inv-search μ-search
-unfolding steps
 returns-2 c =
-    let found = c .before .before .before .before .before in
-    let part = partner found in
-    let one = committing part in
-    let search = head (one .before) .search in
-    let step = one .before .before .step-at .ensures in
-    let both = sym (marked-both (part .before .written .ensures) (found .before .partner-marks .ensures) (found .loop2 .x) (omega arith)) ∙ sym (c .before .both-write .ensures) ∙ c .if2 .taken in
-    clash-found _ (search .j) (search .inv .5) (part .loop .p) (omega arith) (omega arith) (part .loop .inv .1) (shared-object _ (search .j) _ (step .tx-is) (found .loop2 .x) (sym (step .kind-is) ∙ one .if1 .taken) both)
+    let one = c .before .before .before .before in
+    let tried = partner (one .before) in
+    let here = begun (trying tried) in
+    let search = head here .search in
+    clash-found _ _ (search .j) (search .inv .2) (tried .loop .p) (below-k here) (omega arith) (tried .loop .inv .1) (clash-is (one .before) (one .if3 .taken))
 
 pub first-clash-spec : {M : Type 1} → statement M
 first-clash-spec =
@@ -156,13 +225,16 @@ first-clash-spec =
     μ-loop
     Inv-search
     μ-search
-    first-steps-requires
-    first-steps-requires-2
     search-holds
     step-at-requires
-    written-requires
+    index-requires
+    mul-mine
+    element-copy-out-mine
+    step-of-requires
+    add-marked-above
+    marked-above-requires
     loop-holds
-    partner-marks-requires
+    clashes-requires
     loop2-holds
     both-write-requires
     add-x
@@ -171,6 +243,9 @@ first-clash-spec =
     add-p
     loop-less
     loop-again
+    add-put-marked
+    cast-put-marked
+    put-marked-requires
     add-j
     search-less
     search-again

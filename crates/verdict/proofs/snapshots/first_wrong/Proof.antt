@@ -6,31 +6,33 @@ use native.Mathlib.Omega.{arith}
 use lib.ListN.{length}
 use Rattle.words.specs.Tests.{some}
 use Rattle.verdict.specs.Log.{steps}
-use Rattle.verdict.specs.declared.answers.Checked.the-variants.{Passed}
-use Rattle.verdict.specs.Refusal.{log-refusal}
 use Rattle.verdict.specs.Snapshot.{wrong-read}
 use Rattle.words.proofs.Truth.{lowest-none, lowest-found, none-next}
 use Rattle.verdict.proofs.snapshots.first_wrong.Statement.{statement}
 use Rattle.verdict.proofs.snapshots.first_wrong.Tie as tie
 
 abbrev Inv-loop : tie.InvT-loop
-Inv-loop log n i₀ i = (n ≡ length log / 4) × (i ≤ n) × (log-refusal log ≡ Passed) × (some i (wrong-read log) ≡ false)
+Inv-loop log begins commits next n i₀ i = (n ≡ length log / 4) × (i ≤ n) × (some i (wrong-read log) ≡ false)
 
 abbrev μ-loop : tie.MeasureT-loop
-μ-loop log n i₀ i = n - i
+μ-loop log begins commits next n i₀ i = n - i
+
+-- the entry, from the head of the loop
+abbrev entry : tie.At-loop Inv-loop μ-loop → tie.Start Inv-loop μ-loop
+entry c = c .before .before
 
 loop-holds : tie.Need-loop-holds Inv-loop μ-loop
 unfolding some
-loop-holds c = (refl, omega arith, c .before .pre, refl)
+loop-holds c = (refl, omega arith, refl)
 
 is-wrong-requires : tie.Need-is-wrong-requires Inv-loop μ-loop
-is-wrong-requires c κs = (c .before .loop .inv .2, omega arith)
+is-wrong-requires c κs = let known = entry (c .before) .pre in (known .0, known .1, known .2, known .3, omega arith)
 
 returns : tie.Need-returns Inv-loop μ-loop
 unfolding steps
 returns c =
     let loop = c .before .before .before .loop in
-    sym (lowest-found _ (loop .i) (omega arith) (sym (c .before .is-wrong .ensures) ∙ c .if1 .taken) (loop .inv .3))
+    sym (lowest-found _ (loop .i) (omega arith) (sym (c .before .is-wrong .ensures) ∙ c .if1 .taken) (loop .inv .2))
 
 add-i : tie.Need-add-i Inv-loop μ-loop
 add-i c = omega arith
@@ -41,7 +43,7 @@ loop-less c = omega arith
 loop-again : tie.Need-loop-again Inv-loop μ-loop
 loop-again c =
     let inv = c .before .before .before .loop .inv in
-    (refl, omega arith, inv .2, none-next _ _ (inv .3) (sym (c .before .is-wrong .ensures) ∙ c .if1 .left))
+    (refl, omega arith, none-next _ _ (inv .2) (sym (c .before .is-wrong .ensures) ∙ c .if1 .left))
 
 returns-2 : tie.Need-returns-2 Inv-loop μ-loop
 unfolding steps
@@ -49,7 +51,7 @@ returns-2 c =
     let loop = c .before .loop in
     let log = c .before .before .before .args .log .now in
     let e : loop .i ≡ length log / 4 = omega arith in
-    e ∙ sym (lowest-none (wrong-read log) (rw e at (loop .inv .3)))
+    e ∙ sym (lowest-none (wrong-read log) (rw e at (loop .inv .2)))
 
 pub first-wrong-spec : {M : Type 1} → statement M
 first-wrong-spec =

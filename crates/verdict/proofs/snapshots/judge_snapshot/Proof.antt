@@ -3,41 +3,65 @@ use mathlib.Core.Path.{sym}
 use native.Mathlib.Omega.{arith}
 use borrow.Author.Needs.{needs}
 use Rattle.words.proofs.Truth.{lowest-bound}
-use Rattle.verdict.specs.Limits.{transactions}
 use Rattle.verdict.specs.Log.{steps}
-use Rattle.verdict.specs.Snapshot.{wrong-commit}
+use Rattle.verdict.specs.Snapshot.{wrong-read}
 use Rattle.verdict.proofs.SnapshotLaws.{read-first, write-first, all-right}
 use Rattle.verdict.proofs.snapshots.judge_snapshot.Statement.{statement}
 use Rattle.verdict.proofs.snapshots.judge_snapshot.Tie as tie
+
+-- both tables and the entry, from where the lowest wrong read is known; and that place, from where the first clash is
+abbrev tables : tie.After-first-wrong → tie.After-first-steps2
+tables c = c .before .before .before
+
+abbrev entry : tie.After-first-wrong → tie.Start
+entry c = tables c .before .before .before
+
+abbrev read : tie.After-first-clash → tie.After-first-wrong
+read c = c .before .before .before
+
+first-steps-requires : tie.Need-first-steps-requires
+first-steps-requires c κs = search needs
+
+first-steps-requires-2 : tie.Need-first-steps-requires-2
+first-steps-requires-2 c κs = search needs
 
 first-wrong-requires : tie.Need-first-wrong-requires
 first-wrong-requires c κs = search needs
 
 first-clash-requires : tie.Need-first-clash-requires
-first-clash-requires c κs = search needs
-
--- the wrong read comes before the end of the log
-wanted-requires : tie.Need-wanted-requires
-unfolding steps
-wanted-requires c κs =
-    let d = c .before in
-    let log = d .before .before .before .args .log .now in
-    (d .before .before .before .pre, omega (arith, c .if1 .taken, d .first-clash .ensures .first, lowest-bound {n = steps log} (wrong-commit transactions log)))
+first-clash-requires c κs =
+    let here = c .before .before in
+    let log = entry here .args .log .now in
+    (entry here .pre .0, entry here .pre .1, tables here .before .first-steps .ensures, tables here .first-steps2 .ensures, omega (arith, here .first-wrong .ensures, lowest-bound {n = steps log} (wrong-read log)))
 
 returns : tie.Need-returns
-unfolding steps
-returns c =
-    let d = c .before .before in
-    sym (read-first _ _ _ _ (d .before .first-wrong .ensures) (d .first-clash .ensures) (c .before .if1 .taken) (c .wanted .ensures))
+returns c = sym (write-first _ _ _ _ (read (c .before) .first-wrong .ensures) (c .before .first-clash .ensures) (c .if1 .taken))
+
+wanted-requires : tie.Need-wanted-requires
+wanted-requires c κs = search needs
 
 returns-2 : tie.Need-returns-2
 unfolding steps
-returns-2 c = sym (write-first _ _ _ _ (c .before .before .before .first-wrong .ensures) (c .before .before .first-clash .ensures) (c .before .if1 .left) (c .if2 .taken))
+returns-2 c =
+    let one = c .before .before in
+    let judged = one .before .before in
+    sym (read-first _ _ _ _ (read judged .first-wrong .ensures) (judged .first-clash .ensures) (one .before .if1 .left) (one .if2 .taken) (c .wanted .ensures))
 
 returns-3 : tie.Need-returns-3
 unfolding steps
-returns-3 c = sym (all-right _ _ _ _ (c .before .before .before .first-wrong .ensures) (c .before .before .first-clash .ensures) (c .before .if1 .left) (c .if2 .left))
+returns-3 c =
+    let judged = c .before .before in
+    sym (all-right _ _ _ _ (read judged .first-wrong .ensures) (judged .first-clash .ensures) (c .before .if1 .left) (c .if2 .left))
 
 pub judge-snapshot-spec : {M : Type 1} → statement M
 judge-snapshot-spec =
-    tie.close (tie.spec first-wrong-requires first-clash-requires wanted-requires returns returns-2 returns-3)
+    tie.close
+    (tie.spec
+    first-steps-requires
+    first-steps-requires-2
+    first-wrong-requires
+    first-clash-requires
+    returns
+    wanted-requires
+    returns-2
+    returns-3)

@@ -6,32 +6,31 @@ use native.Mathlib.Omega.{arith}
 use lib.ListN.{length}
 use Rattle.words.proofs.Truth.{and-true, and-no-left, →is, →isnt}
 use Rattle.verdict.specs.Limits.{transactions}
-use Rattle.verdict.specs.Log.{steps, tx, commits-writer}
+use Rattle.verdict.specs.Log.{steps, tx, writer, commits-writer}
 use Rattle.verdict.specs.Refusal.{log-refusal}
 use Rattle.verdict.specs.Snapshot.{last-committed}
 use Rattle.verdict.specs.declared.answers.Checked.the-variants.{Passed}
 use Rattle.verdict.specs.declared.answers.Writer.the-variants.{Committed}
 use Rattle.verdict.proofs.WellFormed.{well-formed}
-use Rattle.verdict.proofs.Noting.{by-mark}
 use Rattle.verdict.proofs.SnapshotLaws.{last-none, found-back, further-back}
 use Rattle.verdict.proofs.snapshots.last_committed.Statement.{statement}
 use Rattle.verdict.proofs.snapshots.last_committed.Tie as tie
 
 abbrev Inv-loop : tie.InvT-loop
-Inv-loop log b x marks j₀ j = (j ≤ b) × (4 * b ≤ length log) × (log-refusal log ≡ Passed) × (last-committed log b x ≡ last-committed log j x)
+Inv-loop log writes b x j₀ j = (j ≤ b) × (4 * b ≤ length log) × (log-refusal log ≡ Passed) × (last-committed log b x ≡ last-committed log j x)
 
 abbrev μ-loop : tie.MeasureT-loop
-μ-loop log b x marks j₀ j = j
+μ-loop log writes b x j₀ j = j
 
 -- the head of the loop and the entry, from where a step is read; and that place, from where the mark of its transaction is
 abbrev head : tie.After-struct-known Inv-loop μ-loop → tie.At-loop Inv-loop μ-loop
 head c = c .before .before .before
 
 abbrev entry : tie.After-struct-known Inv-loop μ-loop → tie.Start Inv-loop μ-loop
-entry c = head c .before .before .before
+entry c = head c .before .before
 
-abbrev read : tie.After-marked Inv-loop μ-loop → tie.After-struct-known Inv-loop μ-loop
-read c = c .before .before .before
+abbrev read : tie.After-object-marked Inv-loop μ-loop → tie.After-struct-known Inv-loop μ-loop
+read c = c .before .before
 
 -- the transaction of the step is within the limit
 tx-in : (c : tie.After-struct-known Inv-loop μ-loop) → tx (entry c .args .log .now) (head c .loop .j - 1) ≤ transactions
@@ -39,18 +38,18 @@ unfolding steps
 tx-in c = well-formed _ (head c .loop .inv .2) .range (head c .loop .j - 1) (omega arith) .1
 
 -- whether the step commits a writer, by the mark
-by-writers : (c : tie.After-marked Inv-loop μ-loop) {v : Bool} → c .marked .result ≡ v → let a = entry (read c) .args in commits-writer (a .log .now) (a .x) (head (read c) .loop .j - 1) ≡ v
+by-writers : (c : tie.After-object-marked Inv-loop μ-loop) {v : Bool} → c .object-marked .result ≡ v → let a = entry (read c) .args in commits-writer (a .log .now) (a .x) (head (read c) .loop .j - 1) ≡ v
 unfolding commits-writer
 by-writers c q =
     let here = read c in
     let step = here .before .step-at .ensures in
-    and-true (→is (sym (step .kind-is) ∙ c .before .before .if1 .taken)) ∙ by-mark (head here .before .writers .ensures) (tx-in here) (step .tx-is) (c .marked .ensures) q
-
-writers-requires : tie.Need-writers-requires Inv-loop μ-loop
-writers-requires c κs = c .before .pre .0
+    let known = entry here .pre in
+    let t = here .before .step-at .result .tx in
+    and-true (→is (sym (step .kind-is) ∙ c .before .if1 .taken))
+    ∙ ap (writer (entry here .args .log .now) (entry here .args .x)) (sym (step .tx-is)) ∙ sym (known .1 .mark t _ (rw (step .tx-is) (tx-in here)) (known .3)) ∙ sym (c .object-marked .ensures) ∙ q
 
 loop-holds : tie.Need-loop-holds Inv-loop μ-loop
-loop-holds c = let q = c .before .before .pre in (omega arith, q .1, q .0, refl)
+loop-holds c = let q = c .before .pre in (omega arith, q .2, q .0, refl)
 
 sub-j : tie.Need-sub-j Inv-loop μ-loop
 sub-j c = omega arith
@@ -58,8 +57,8 @@ sub-j c = omega arith
 step-at-requires : tie.Need-step-at-requires Inv-loop μ-loop
 step-at-requires c κs = omega arith
 
-marked-requires : tie.Need-marked-requires Inv-loop μ-loop
-marked-requires c κs = let here = c .before .before in omega (arith, here .before .step-at .ensures .tx-is, tx-in here)
+object-marked-requires : tie.Need-object-marked-requires Inv-loop μ-loop
+object-marked-requires c κs = let here = c .before in omega (arith, here .before .step-at .ensures .tx-is, tx-in here)
 
 returns : tie.Need-returns Inv-loop μ-loop
 returns c =
@@ -94,11 +93,10 @@ last-committed-spec =
     (tie.spec
     Inv-loop
     μ-loop
-    writers-requires
     loop-holds
     sub-j
     step-at-requires
-    marked-requires
+    object-marked-requires
     returns
     loop-less
     loop-again

@@ -5,6 +5,7 @@ use Rattle.verdict.specs.Refusal.{_else-try_, work-refusal, log-refusal}
 use Rattle.verdict.specs.Call.{turned-away, answered}
 use Rattle.verdict.specs.declared.answers.Checked.the-variants.{Passed}
 use Rattle.verdict.proofs.WellFormed.{else-try→}
+use Rattle.verdict.proofs.Examining.{marks-of}
 use Rattle.verdict.proofs.Frame.{work-left}
 use Rattle.verdict.proofs.snapshots.snapshot.Statement.{statement}
 use Rattle.verdict.proofs.snapshots.snapshot.Tie as tie
@@ -13,19 +14,22 @@ use Rattle.verdict.proofs.snapshots.snapshot.Tie as tie
 abbrev entry : tie.After-admit → tie.Start
 entry c = c .before .before .before
 
+abbrev looked-at : tie.After-enum-told → tie.After-admit
+looked-at c = c .before .before
+
 -- the call is taken, from where the work area is cleared
 abbrev taken : tie.After-slice-known2 → tie.After-enum-told
 taken c = c .before .before .before .before
 
-passed : (c : tie.After-enum-told) → let a = entry (c .before .before) .args in (work-refusal (a .work .now) else-try log-refusal (a .log .now)) ≡ Passed
+passed : (c : tie.After-enum-told) → let a = entry (looked-at c) .args in (work-refusal (a .work .now) else-try log-refusal (a .log .now)) ≡ Passed
 unfolding work-refusal
-passed c = sym (c .before .before .admit .ensures) ∙ c .enum-told .given .1
+passed c = sym (looked-at c .admit .ensures .says) ∙ c .enum-told .given .1
 
 admit-requires : tie.Need-admit-requires
 admit-requires c κs = search needs
 
-enum-known-admitted : tie.Need-enum-known-admitted
-enum-known-admitted c = search needs
+enum-known-checked : tie.Need-enum-known-checked
+enum-known-checked c = search needs
 
 enum-told : tie.Need-enum-told
 enum-told c = search needs
@@ -33,30 +37,33 @@ enum-told c = search needs
 clear-requires : tie.Need-clear-requires
 clear-requires c κs = search needs
 
-judge-snapshot-requires : tie.Need-judge-snapshot-requires
-judge-snapshot-requires c κs = else-try→ (passed (taken c)) .1
+snapshot-by-marks-requires : tie.Need-snapshot-by-marks-requires
+snapshot-by-marks-requires c κs =
+    let told = taken c in
+    (else-try→ (passed told) .1, marks-of (looked-at told .admit .ensures) (told .enum-told .given .1))
 
 returns : tie.Need-returns
 unfolding work-refusal
-returns c = turned-away _ _ (sym (c .before .admitted .given .1) ∙ c .before .before .before .admit .ensures) refl refl
+returns c = let known = c .before in turned-away _ _ (sym (known .checked .given .1) ∙ known .before .before .admit .ensures .says) refl refl
 
 same-length : tie.Need-same-length
 same-length c = search needs
 
 returns-2 : tie.Need-returns-2
 returns-2 c =
-    let here = taken (c .before) in
-    answered (c .judge-snapshot .result) (sym (passed here)) (c .judge-snapshot .ensures) refl (work-left _ (entry (here .before .before) .args .work .now) _ (else-try→ (passed here) .0) (c .before .before .before .clear .ensures))
+    let clean = c .before in
+    let here = taken clean in
+    answered (c .snapshot-by-marks .result) (sym (passed here)) (c .snapshot-by-marks .ensures) refl (work-left _ (entry (looked-at here) .args .work .now) _ (else-try→ (passed here) .0) (clean .before .before .clear .ensures))
 
 pub snapshot-spec : {M : Type 1} → statement M
 snapshot-spec =
     tie.close
     (tie.spec
     admit-requires
-    enum-known-admitted
+    enum-known-checked
     enum-told
     clear-requires
-    judge-snapshot-requires
+    snapshot-by-marks-requires
     returns
     same-length
     returns-2)

@@ -1,9 +1,15 @@
 -- `wanted` meets its contract.
+use mathlib.Core.Path.{_≡_, _∙_}
+use Prim.Native.Nat.{_≤_, _<_}
 use native.Mathlib.Omega.{arith}
 use borrow.Author.Needs.{needs}
+use Rattle.words.specs.Tests.{lowest}
 use Rattle.words.proofs.Truth.{lowest-bound}
+use Rattle.verdict.specs.Limits.{transactions, objects}
 use Rattle.verdict.specs.Log.{steps}
+use Rattle.verdict.specs.Inner.Checking.{InRange}
 use Rattle.verdict.specs.Inner.Marks.{does}
+use Rattle.verdict.proofs.WellFormed.{ranges, tx-within, object-within}
 use Rattle.verdict.proofs.SnapshotLaws.{wanted-there}
 use Rattle.verdict.proofs.snapshots.wanted.Statement.{statement}
 use Rattle.verdict.proofs.snapshots.wanted.Tie as tie
@@ -12,23 +18,38 @@ use Rattle.verdict.proofs.snapshots.wanted.Tie as tie
 abbrev entry : tie.After-step-at → tie.Start
 entry c = c .before .before
 
+-- its numbers are within the limits
+within : (c : tie.After-step-at) → InRange (entry c .args .log .now) (entry c .args .i)
+unfolding steps
+within c = ranges _ (entry c .pre .0) _ (omega (arith, entry c .pre .3))
+
+tx-in : (c : tie.After-step-at) → c .step-at .result .tx ≤ transactions
+tx-in c = rw (c .step-at .ensures .tx-is) (tx-within _ _ (within c) .1)
+
+obj-in : (c : tie.After-step-at) → c .step-at .result .obj < objects
+obj-in c = rw (c .step-at .ensures .obj-is) (object-within _ _ (within c))
+
+-- where its transaction begins
+begin-is : (c : tie.After-step-of) → let read = c .before in let log = entry read .args .log .now in c .step-of .result ≡ lowest (steps log) (does log 1 (read .step-at .result .tx))
+begin-is c = c .step-of .ensures ∙ entry (c .before) .pre .2 .entry _ (tx-in (c .before))
+
 step-at-requires : tie.Need-step-at-requires
 step-at-requires c κs = search needs
 
-first-step-requires : tie.Need-first-step-requires
-first-step-requires c κs = search needs
+step-of-requires : tie.Need-step-of-requires
+step-of-requires c κs = tx-in c
 
 last-committed-requires : tie.Need-last-committed-requires
 unfolding steps
 last-committed-requires c κs =
     let read = c .before in
     let log = entry read .args .log .now in
-    (entry read .pre .0, omega (arith, c .first-step .ensures, lowest-bound {n = steps log} (does log 1 (read .step-at .result .tx))))
+    let known = entry read .pre in
+    (known .0, known .1, omega (arith, begin-is c, lowest-bound {n = steps log} (does log 1 (read .step-at .result .tx))), obj-in read)
 
 returns : tie.Need-returns
-returns c =
-    let begun = c .before in
-    wanted-there _ _ (begun .before .step-at .ensures) (begun .first-step .ensures) (c .last-committed .ensures)
+returns c = wanted-there _ _ (c .before .before .step-at .ensures) (begin-is (c .before)) (c .last-committed .ensures)
 
 pub wanted-spec : {M : Type 1} → statement M
-wanted-spec = tie.close (tie.spec step-at-requires first-step-requires last-committed-requires returns)
+wanted-spec =
+    tie.close (tie.spec step-at-requires step-of-requires last-committed-requires returns)

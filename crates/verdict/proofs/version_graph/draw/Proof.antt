@@ -15,10 +15,10 @@ use Rattle.verdict.proofs.version_graph.draw.Statement.{statement}
 use Rattle.verdict.proofs.version_graph.draw.Tie as tie
 
 abbrev Inv-loop : tie.InvT-loop
-Inv-loop log matrix₀ part n i₀ matrix i = (n ≡ length log / 4) × (i ≤ n) × Drawn (versions-until log i) matrix
+Inv-loop log matrix₀ part next n i₀ matrix i = (n ≡ length log / 4) × (i ≤ n) × Drawn (versions-until log i) matrix
 
 abbrev μ-loop : tie.MeasureT-loop
-μ-loop log matrix₀ part n i₀ matrix i = n - i
+μ-loop log matrix₀ part next n i₀ matrix i = n - i
 
 -- the entry, from the top of the loop
 abbrev entry : tie.At-loop Inv-loop μ-loop → tie.Start Inv-loop μ-loop
@@ -26,10 +26,10 @@ entry c = c .before .before .before
 
 loop-holds : tie.Need-loop-holds Inv-loop μ-loop
 unfolding versions-until some no-edge
-loop-holds c = (refl, omega arith, same-edges (c .before .before .pre .2) (λ a b. refl))
+loop-holds c = (refl, omega arith, same-edges (c .before .before .pre .3) (λ a b. refl))
 
 mark-step-requires : tie.Need-mark-step-requires Inv-loop μ-loop
-mark-step-requires c κs = let top = c .before .before in (entry top .pre .0, omega arith, entry top .pre .1, top .loop .inv .2)
+mark-step-requires c κs = let top = c .before .before in (entry top .pre .0, omega arith, entry top .pre .1, entry top .pre .2, top .loop .inv .2)
 
 add-i : tie.Need-add-i Inv-loop μ-loop
 add-i c = omega arith
@@ -41,7 +41,7 @@ loop-again : tie.Need-loop-again Inv-loop μ-loop
 loop-again c = let marked = c .before .before in (refl, omega arith, rw (add-one (marked .before .before .before .loop .i)) (marked .mark-step .ensures))
 
 same-length : tie.Need-same-length Inv-loop μ-loop
-same-length c = c .before .loop .inv .2 .size ∙ sym (entry (c .before) .pre .2 .size)
+same-length c = c .before .loop .inv .2 .size ∙ sym (entry (c .before) .pre .3 .size)
 
 returns : tie.Need-returns Inv-loop μ-loop
 unfolding steps

@@ -10,12 +10,9 @@ use borrow.Author.Needs.{needs}
 use Rattle.verdict.proofs.version_graph.judge_version.Statement.{statement}
 use Rattle.verdict.proofs.version_graph.judge_version.Tie as tie
 
--- where the log is known to be clean, and where it is known who committed; the entry, from the first
-abbrev clean : tie.After-committed-ones → tie.After-enum-told
-clean c = c .before
-
-abbrev marking : tie.After-part → tie.After-committed-ones
-marking c = c .before .before
+-- where the log is known to be clean, from where the edges are to be drawn; and the entry
+abbrev clean : tie.After-part → tie.After-enum-told
+clean c = c .before .before
 
 abbrev entry : tie.After-enum-told → tie.Start
 entry c = c .before .before .before
@@ -33,24 +30,21 @@ returns c = let told = c .before .before in
 enum-told : tie.Need-enum-told
 enum-told c = search needs
 
-committed-ones-requires : tie.Need-committed-ones-requires
-committed-ones-requires c κs = search needs
-
 slice-aggregate-draw : tie.Need-slice-aggregate-draw
 slice-aggregate-draw c = search needs
 
 draw-requires : tie.Need-draw-requires
 unfolding zeros
-draw-requires c κs = (entry (clean (marking c)) .pre .0, marking c .committed-ones .ensures, no-edges refl)
+draw-requires c κs = let q = entry (clean c) .pre in (q .0, q .2, q .3, no-edges refl)
 
 show-requires : tie.Need-show-requires
 show-requires c κs = search needs
 
 returns-2 : tie.Need-returns-2
 returns-2 c = let drawn = c .before .before .before in
-    let marks = marking (drawn .before) in
-    let start = entry (clean marks) in
-    version-holds (well-formed _ (start .pre .0)) (sym (start .pre .1) ∙ clean marks .enum-told .given .1) (marks .committed-ones .ensures) (drawn .draw .ensures) (c .show .ensures)
+    let told = clean (drawn .before) in
+    let q = entry told .pre in
+    version-holds (well-formed _ (q .0)) (sym (q .1) ∙ told .enum-told .given .1) (q .2) (drawn .draw .ensures) (c .show .ensures)
 
 pub judge-version-spec : {M : Type 1} → statement M
 judge-version-spec =
@@ -60,7 +54,6 @@ judge-version-spec =
     without-members-requires
     returns
     enum-told
-    committed-ones-requires
     slice-aggregate-draw
     draw-requires
     show-requires

@@ -53,7 +53,7 @@ takes-part-requires : tie.Need-takes-part-requires
 takes-part-requires c κs = rw (c .step-at .ensures .tx-is) (well c .range (i c) (inside c))
 
 returns : tie.Need-returns
-returns c = let at = c .before .before in none-drawn _ _ (entry at .pre .3) (open-step _ (i at) (sym (told (c .before)) ∙ not-true _ (c .if1 .taken)))
+returns c = let at = c .before .before in none-drawn _ _ (entry at .pre .4) (open-step _ (i at) (sym (told (c .before)) ∙ not-true _ (c .if1 .taken)))
 
 mark-read-requires : tie.Need-mark-read-requires
 mark-read-requires c κs = search needs
@@ -66,7 +66,7 @@ returns-2 c = let marked = c .before .before in
     let reading = marked .before .before in
     let going = reading .before .before in
     let at = going .before .before in
-    rw (marked .mark-read .ensures) (read-drawn _ _ (entry at .pre .3) (well at) (inside at) (by-committed going) (is-read reading))
+    rw (marked .mark-read .ensures) (read-drawn _ _ (entry at .pre .4) (well at) (inside at) (by-committed going) (is-read reading))
 
 mark-write-requires : tie.Need-mark-write-requires
 mark-write-requires c κs = search needs
@@ -80,12 +80,12 @@ returns-3 c = let marked = c .before .before in
     let going = writing .before .before .before .before in
     let at = going .before .before in
     rw (marked .mark-write .ensures)
-    (write-drawn _ _ (entry at .pre .3) (well at) (inside at) (by-committed going) (sym (at .step-at .ensures .kind-is) ∙ writing .if3 .taken))
+    (write-drawn _ _ (entry at .pre .4) (well at) (inside at) (by-committed going) (sym (at .step-at .ensures .kind-is) ∙ writing .if3 .taken))
 
 returns-4 : tie.Need-returns-4
 returns-4 c = let other = c .before .before in
     let at = other .before .before .before .before in
-    none-drawn _ _ (entry at .pre .3) (other-step _ (i at) (no-read other) (λ e. c .if3 .left (at .step-at .ensures .kind-is ∙ e)))
+    none-drawn _ _ (entry at .pre .4) (other-step _ (i at) (no-read other) (λ e. c .if3 .left (at .step-at .ensures .kind-is ∙ e)))
 
 pub mark-step-spec : {M : Type 1} → statement M
 mark-step-spec =

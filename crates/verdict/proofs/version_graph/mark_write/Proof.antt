@@ -1,12 +1,14 @@
 -- `mark_write` meets its contract.
 use mathlib.Core.Path.{_≡_, ap₂, _∙_}
+use mathlib.Core.Logic.{inr}
 use mathlib.Core.List.{List}
-use Prim.Native.Nat.{ℕ, _≤_}
-use Rattle.verdict.specs.Limits.{transactions}
+use Prim.Native.Nat.{ℕ, _≤_, _<_}
+use Rattle.verdict.specs.Limits.{transactions, objects}
 use Rattle.verdict.specs.Log.{steps, tx, obj}
 use Rattle.verdict.specs.Inner.Edges.{with-edge}
 use Rattle.verdict.specs.Inner.VersionEdges.{next-writer}
 use Rattle.verdict.proofs.WellFormed.{Well, well-formed}
+use Rattle.verdict.proofs.NextWriters.{next-write}
 use Rattle.verdict.proofs.VersionGraph.{next-range}
 use borrow.Author.Needs.{needs}
 use native.Mathlib.Omega.{arith}
@@ -28,18 +30,27 @@ high : (c : tie.After-step-at) → c .step-at .result .tx ≤ transactions
 unfolding steps
 high c = rw (c .step-at .ensures .tx-is) (well c .range (entry c .args .i) (omega arith) .1)
 
+-- its object
+object-in : (c : tie.After-step-at) → obj (the-log c) (entry c .args .i) < objects
+unfolding steps
+object-in c = well c .object (entry c .args .i) (omega arith) (inr (entry c .pre .2))
+
 -- the writer of the next version
-next-is : (c : tie.After-next-writer) → let log = the-log (c .before) in let i = entry (c .before) .args .i in c .next-writer .result ≡ next-writer log (obj log i) (tx log i)
-next-is c = let step = c .before .step-at .ensures in c .next-writer .ensures ∙ ap₂ (next-writer _) (step .obj-is) (step .tx-is)
+next-is : (c : tie.After-next-of) → let log = the-log (c .before) in let i = entry (c .before) .args .i in c .next-of .result ≡ next-writer log (obj log i) (tx log i)
+unfolding steps
+next-is c =
+    let at = c .before in
+    let step = at .step-at .ensures in
+    next-write (well at) (entry at .pre .3) (entry at .args .i) (omega arith) (entry at .pre .2) (step .tx-is) (step .obj-is) (c .next-of .ensures)
 
 step-at-requires : tie.Need-step-at-requires
 step-at-requires c κs = search needs
 
-next-writer-requires : tie.Need-next-writer-requires
-next-writer-requires c κs = search needs
+next-of-requires : tie.Need-next-of-requires
+next-of-requires c κs = (high c, rw (c .step-at .ensures .obj-is) (object-in c))
 
 join-requires : tie.Need-join-requires
-join-requires c κs = let stepped = c .before .before in (entry stepped .pre .2, high stepped, rw (c .before .next-writer .ensures) (next-range _ (well stepped) _ _))
+join-requires c κs = let stepped = c .before .before in (entry stepped .pre .4, high stepped, rw (next-is (c .before)) (next-range _ (well stepped) _ _))
 
 same-length : tie.Need-same-length
 same-length c = search needs
@@ -50,4 +61,4 @@ returns c = let joined = c .before .before in
     joined .join .ensures ∙ ap₂ (with-edge _) (next .before .step-at .ensures .tx-is) (next-is next)
 
 pub mark-write-spec : {M : Type 1} → statement M
-mark-write-spec = tie.close (tie.spec step-at-requires next-writer-requires join-requires same-length returns)
+mark-write-spec = tie.close (tie.spec step-at-requires next-of-requires join-requires same-length returns)

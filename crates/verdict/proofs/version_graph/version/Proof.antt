@@ -1,6 +1,7 @@
 -- `version` meets its contract.
 use borrow.Author.Needs.{needs}
 use Rattle.verdict.specs.Refusal.{log-refusal, work-refusal, witness-refusal}
+use Rattle.verdict.proofs.Examining.{marks-of}
 use Rattle.verdict.proofs.Frame.{Admitted, admitted, call-refused, call-left}
 use Rattle.verdict.proofs.version_graph.version.Statement.{statement}
 use Rattle.verdict.proofs.version_graph.version.Tie as tie
@@ -9,32 +10,34 @@ use Rattle.verdict.proofs.version_graph.version.Tie as tie
 abbrev entry : tie.After-admit-witness → tie.Start
 entry c = c .before .before .before .before
 
+abbrev looked-at : tie.After-enum-told → tie.After-admit-witness
+looked-at c = c .before .before
+
 -- nothing turns the call away
-passed : (c : tie.After-enum-told) → let start = entry (c .before .before) in Admitted (log-refusal (start .args .log .now)) (start .args .work .now) (start .args .witness .now)
+passed : (c : tie.After-enum-told) → let start = entry (looked-at c) in Admitted (log-refusal (start .args .log .now)) (start .args .work .now) (start .args .witness .now)
 unfolding work-refusal witness-refusal
-passed c = admitted _ _ _ (c .before .before .admit-witness .ensures) (c .enum-told .given .1)
+passed c = admitted _ _ _ (looked-at c .admit-witness .ensures .says) (c .enum-told .given .1)
 
 admit-witness-requires : tie.Need-admit-witness-requires
 admit-witness-requires c κs = search needs
 
-enum-known-admitted : tie.Need-enum-known-admitted
-enum-known-admitted c = search needs
+enum-known-checked : tie.Need-enum-known-checked
+enum-known-checked c = search needs
 
 enum-told : tie.Need-enum-told
 enum-told c = search needs
 
-judge-clean-requires : tie.Need-judge-clean-requires
-judge-clean-requires c κs = passed (c .before .before) .well
-
-judge-version-requires : tie.Need-judge-version-requires
-judge-version-requires c κs = (passed (c .before .before .before) .well, c .judge-clean .ensures)
+version-by-marks-requires : tie.Need-version-by-marks-requires
+version-by-marks-requires c κs =
+    let told = c .before .before in
+    (passed told .well, marks-of (looked-at told .admit-witness .ensures) (told .enum-told .given .1))
 
 leave-requires : tie.Need-leave-requires
-leave-requires c κs = passed (c .before .before .before .before) .witness-size
+leave-requires c κs = passed (c .before .before .before) .witness-size
 
 returns : tie.Need-returns
 unfolding work-refusal witness-refusal
-returns c = call-refused _ _ _ (c .before .before .before .admit-witness .ensures) _ (c .before .admitted .given .1)
+returns c = let known = c .before in call-refused _ _ _ (known .before .before .admit-witness .ensures .says) _ (known .checked .given .1)
 
 same-length : tie.Need-same-length
 same-length c = search needs
@@ -45,17 +48,16 @@ same-length-2 c = search needs
 returns-2 : tie.Need-returns-2
 returns-2 c =
     let found = c .before .before .before .before .before in
-    call-left (passed (found .before .before .before .before)) (found .judge-version .ensures) (c .before .before .before .before .leave .ensures)
+    call-left (passed (found .before .before .before)) (found .version-by-marks .ensures) (c .before .before .before .before .leave .ensures)
 
 pub version-spec : {M : Type 1} → statement M
 version-spec =
     tie.close
     (tie.spec
     admit-witness-requires
-    enum-known-admitted
+    enum-known-checked
     enum-told
-    judge-clean-requires
-    judge-version-requires
+    version-by-marks-requires
     leave-requires
     returns
     same-length

@@ -1,0 +1,4 @@
+-- Laws of marks.
+pub mod Marks
+pub mod Walks
+pub mod Putting

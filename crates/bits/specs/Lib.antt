@@ -1,0 +1,2 @@
+-- Marks kept as the bits of one number.
+pub mod Word

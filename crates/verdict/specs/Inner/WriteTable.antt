@@ -1,0 +1,17 @@
+-- The table of marks: for each transaction one number, whose mark x is set exactly when the transaction writes x.
+use mathlib.Core.Path.{_≡_}
+use mathlib.Core.List.{List}
+use Prim.Native.Nat.{ℕ, _≤_, _<_}
+use lib.ListN.{getD}
+use Rattle.bits.specs.Word.{marked}
+use Rattle.verdict.specs.Limits.{transactions, objects}
+use Rattle.verdict.specs.Log.{wrote, writer}
+
+module _ (log : List ℕ) where
+  -- before step i
+  pub record Written (i : ℕ) (table : List ℕ) : Type 0 where
+    pub mark : (t x : ℕ) → t ≤ transactions → x < objects → marked (getD table t 0) x ≡ wrote log i t x
+
+  -- in the whole log
+  pub record WriteTable (table : List ℕ) : Type 0 where
+    pub mark : (t x : ℕ) → t ≤ transactions → x < objects → marked (getD table t 0) x ≡ writer log x t
