@@ -14,7 +14,7 @@ use crate::step::step_at;
 use crate::walk::index;
 ghost use mathlib.Core.Path.{_≡_};
 ghost use Prim.Native.Nat.{_≤_, _<_, _+_, _*_};
-ghost use lib.ListN.{length, getD};
+ghost use lib.ListN.{length, getD, replicate};
 ghost use Rattle.words.specs.Tests.{lowest};
 ghost use Rattle.verdict.specs.Limits.{transactions, objects};
 ghost use Rattle.verdict.specs.Log.{steps};
@@ -25,13 +25,12 @@ ghost use Rattle.verdict.specs.Inner.Marks.{Committed};
 ghost use Rattle.verdict.specs.Inner.LastWrites.{LastWrites};
 ghost use Rattle.verdict.specs.declared.answers.Checked.the-variants.{Passed};
 
-// For each transaction and object, 1 and the last step that writes it, or 0 where there is none.
-fn last_writes(log: &[u16]) -> [u16; Transaction::PAIRS]
-    requires { ⌜ log-refusal (now log) ≡ Passed ⌝ }
-    ensures { λ r. ⌜ LastWrites (now (log .entry)) (steps (now (log .entry))) r ⌝ }
+// Fills a table of zeros: for each transaction and object, 1 and the last step that writes it, or 0 where there is none.
+fn last_writes(log: &[u16], table: &mut [u16; Transaction::PAIRS])
+    requires { ⌜ (log-refusal (now log) ≡ Passed) × (now table ≡ replicate (129 * objects) 0) ⌝ }
+    ensures { λ _. ⌜ LastWrites (now (log .entry)) (steps (now (log .entry))) (now (table .exit)) ⌝ }
 {
     let n = log.len() / 4;
-    let mut table = [0u16; Transaction::PAIRS];
     let mut i = 0;
     while i < n {
         let step = step_at(log, i);
@@ -42,7 +41,6 @@ fn last_writes(log: &[u16]) -> [u16; Transaction::PAIRS]
         }
         i += 1;
     }
-    table
 }
 
 // The table's entry for t and x.
@@ -95,7 +93,8 @@ fn first_fault(log: &[u16], part: &[u8; Transaction::COUNT]) -> usize
     requires { ⌜ (log-refusal (now log) ≡ Passed) × Committed (now log) (now part) ⌝ }
     ensures { λ r. ⌜ r ≡ lowest (steps (now (log .entry))) (faulty-read (now (log .entry))) ⌝ }
 {
-    let last = last_writes(log);
+    let mut last = [0u16; Transaction::PAIRS];
+    last_writes(log, &mut last);
     let n = log.len() / 4;
     let mut i = 0;
     while i < n {

@@ -23,7 +23,7 @@ abbrev μ-loop : tie.MeasureT-loop
 μ-loop log part last n i₀ i = n - i
 
 -- the head of the loop, from where the table is lent
-abbrev head : tie.After-last Inv-loop μ-loop → tie.At-loop Inv-loop μ-loop
+abbrev head : tie.After-last2 Inv-loop μ-loop → tie.At-loop Inv-loop μ-loop
 head c = c .before .before
 
 last-writes-requires : tie.Need-last-writes-requires Inv-loop μ-loop
@@ -57,7 +57,7 @@ returns-2 : tie.Need-returns-2 Inv-loop μ-loop
 unfolding steps
 returns-2 c =
     let loop = c .before .loop in
-    let log = c .before .before .before .before .args .log .now in
+    let log = c .before .before .before .before .before .args .log .now in
     let e : loop .i ≡ length log / 4 = omega arith in
     e ∙ sym (lowest-none (faulty-read log) (rw e at (loop .inv .5)))
 

@@ -1,10 +1,10 @@
 -- `last_writes` meets its contract.
 use mathlib.Core.Path.{_≡_, refl, sym, _∙_}
 use mathlib.Core.Logic.{inr, ⊎-elim}
-use Prim.Native.Nat.{_+_, _-_, _*_, _/_, _≤_, _<_}
+use Prim.Native.Nat.{ℕ, _+_, _-_, _*_, _/_, _≤_, _<_}
 use native.Mathlib.Omega.{arith}
 use borrow.Author.Needs.{needs}
-use lib.ListN.{length, length-set}
+use lib.ListN.{length, length-set, length-replicate}
 use Rattle.verdict.specs.Limits.{transactions, objects}
 use Rattle.verdict.specs.Log.{steps, kind, tx, obj}
 use Rattle.verdict.specs.Refusal.{log-refusal}
@@ -16,10 +16,10 @@ use Rattle.verdict.proofs.cleanness.last_writes.Statement.{statement}
 use Rattle.verdict.proofs.cleanness.last_writes.Tie as tie
 
 abbrev Inv-loop : tie.InvT-loop
-Inv-loop log n table₀ i₀ table i = (n ≡ length log / 4) × (i ≤ n) × (log-refusal log ≡ Passed) × (length table ≡ 8256) × LastWrites log i table
+Inv-loop log table₀ n i₀ table i = (n ≡ length log / 4) × (i ≤ n) × (log-refusal log ≡ Passed) × (length table ≡ 8256) × LastWrites log i table
 
 abbrev μ-loop : tie.MeasureT-loop
-μ-loop log n table₀ i₀ table i = n - i
+μ-loop log table₀ n i₀ table i = n - i
 
 -- the head of the loop and the entry, from where a step is read
 abbrev head : tie.After-struct-known Inv-loop μ-loop → tie.At-loop Inv-loop μ-loop
@@ -49,7 +49,7 @@ place-in c =
     omega (arith, c .before .index .ensures, c .index2 .ensures, step .tx-is, step .obj-is, tx-in (one .before) (one .if1 .taken), object-in (one .before) (one .if1 .taken))
 
 loop-holds : tie.Need-loop-holds Inv-loop μ-loop
-loop-holds c = (refl, omega arith, c .before .pre, search needs, last-none _ 8256 refl)
+loop-holds c = let q = c .before .pre in (refl, omega arith, q .0, rw (q .1) (length-replicate {A = ℕ} 8256 0), rw (q .1) (last-none _ 8256 refl))
 
 step-at-requires : tie.Need-step-at-requires Inv-loop μ-loop
 step-at-requires c κs = omega arith
@@ -76,8 +76,8 @@ add-table-2 c = omega (arith, place-in c)
 mul-table-2 : tie.Need-mul-table-2 Inv-loop μ-loop
 mul-table-2 c = omega (arith, place-in c)
 
-array-write-table : tie.Need-array-write-table Inv-loop μ-loop
-array-write-table c = place-in c
+element-write-table : tie.Need-element-write-table Inv-loop μ-loop
+element-write-table c = place-in c
 
 add-i : tie.Need-add-i Inv-loop μ-loop
 add-i c = omega arith
@@ -117,7 +117,7 @@ last-writes-spec =
     mul-table
     add-table-2
     mul-table-2
-    array-write-table
+    element-write-table
     add-i
     loop-less
     loop-again
