@@ -13,11 +13,10 @@ use Rattle.verdict.specs.Limits.{transactions, objects}
 use Rattle.verdict.specs.Log.{kind, tx, commits, writer, commit-step, commits-writer}
 use Rattle.verdict.specs.Snapshot.{snapshot-step, overlap, clash}
 use Rattle.verdict.specs.Inner.Clashes.{partner}
-use Rattle.verdict.specs.Inner.LastWrites.{latest}
 use Rattle.verdict.specs.Inner.WriteTable.{WriteTable}
 use Rattle.verdict.proofs.WellFormed.{Well}
 use Rattle.verdict.proofs.Versions.{commit-step-is, tx-at}
-use Rattle.verdict.proofs.LastWrites.{latest-yes, latest-no, latest-later}
+use Rattle.verdict.proofs.Latest.{latest, latest-yes, latest-no, latest-later}
 use Rattle.verdict.proofs.SnapshotLaws.{shared-object, is-partner, common-object}
 
 -- A CLASH, by the marks

@@ -20,7 +20,7 @@ pub mod WrongReads
 pub mod Clashing
 pub mod Loosely
 pub mod Noting
-pub mod LastWrites
+pub mod Latest
 pub mod Matrices
 pub mod Versions
 pub mod Dependencies

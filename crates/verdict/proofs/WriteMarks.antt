@@ -1,51 +1,104 @@
--- The table of marks: it begins empty, each step adds at most one mark, and behind the last step it says who writes what.
+-- The tables of marks: what is written before a step, filled from the first step on, and what is written from a step on, filled from the last step back.
 use mathlib.Core.Path.{_≡_, refl, sym, ap, _∙_}
-use mathlib.Core.Bool.{true, false}
-use mathlib.Core.Logic.{_⊎_, inl, inr}
+use mathlib.Core.Bool.{Bool, true, false}
+use mathlib.Core.Logic.{_⊎_, inl, inr, ⊎-elim}
 use mathlib.Core.List.{List}
-use Prim.Native.Nat.{ℕ, _+_, _≤_, _<_}
+use Prim.Native.Nat.{ℕ, suc, _+_, _≤_, _<_}
 use native.Mathlib.Omega.{arith}
-use lib.ListN.{length, getD, set, replicate, getD-replicate}
+use lib.ListN.{length, getD, set, replicate, length-set, length-replicate, getD-replicate}
 use lib.Seq.{getD-set-same, getD-set-other}
-use Rattle.words.specs.Tests.{_is_, _and_, _or_, some}
-use Rattle.words.proofs.Truth.{decide, →and, and-no-left, and-no-right, →or-left, or-false, is→, →is, isnt→, →isnt, →some, some-skip}
+use Rattle.words.specs.Tests.{_is_, _below_, _upto_, _and_, _or_, some}
+use Rattle.words.proofs.Truth.{decide, same-test, and→, →and, and-no-left, and-no-right, or→, →or-left, →or-right, or-no, or-false, is→, →is, isnt→, →isnt, upto→, →upto, →not-upto, some→, →some, →none, some-next}
 use Rattle.bits.specs.Word.{marked, more}
 use Rattle.bits.proofs.Marks.{no-mark, marked-more}
 use Rattle.verdict.specs.Limits.{transactions, objects}
 use Rattle.verdict.specs.Log.{steps, kind, tx, obj, writes, wrote, writer}
-use Rattle.verdict.specs.Inner.WriteTable.{Written, WriteTable}
+use Rattle.verdict.specs.Clean.{writes-later}
+use Rattle.verdict.specs.Inner.WriteTable.{Written, WriteTable, WritesFrom}
 
--- before the first step
+-- a table of zeros has no mark
+none-marked : (n t x : ℕ) → t < n → marked (getD (replicate n 0) t 0) x ≡ false
+none-marked n t x h = ap (λ (m : ℕ). marked m x) (getD-replicate n t 0 0 h) ∙ no-mark x
+
+-- THE MARKS OF ONE STEP MORE: what step i adds to those of a test of t and x
+module _ (log : List ℕ) (i : ℕ) (table : List ℕ) {p : ℕ → ℕ → Bool} (known : (t x : ℕ) → t ≤ transactions → x < objects → marked (getD table t 0) x ≡ p t x) where
+  none-added : (kind log i ≡ 3 → ⊥) → (t x : ℕ) → t ≤ transactions → x < objects → marked (getD table t 0) x ≡ (p t x or writes log t x i)
+  unfolding writes
+  none-added k t x h l = known t x h l ∙ sym (or-no _ (and-no-left _ (and-no-left _ (→isnt k))))
+
+  one-added : kind log i ≡ 3 → tx log i < length table
+      → (t x : ℕ) → t ≤ transactions → x < objects → marked (getD (set table (tx log i) (more (getD table (tx log i) 0) (obj log i))) t 0) x ≡ (p t x or writes log t x i)
+  unfolding writes
+  one-added k size t x h l = go (decide (t is tx log i)) (decide (x is obj log i))
+    where
+      go : ((t is tx log i) ≡ true) ⊎ ((t is tx log i) ≡ false) → ((x is obj log i) ≡ true) ⊎ ((x is obj log i) ≡ false)
+          → marked (getD (set table (tx log i) (more (getD table (tx log i) 0) (obj log i))) t 0) x ≡ (p t x or writes log t x i)
+      go (inl a) (inl b) =
+          let e : t ≡ tx log i = is→ a in
+          rw (e, getD-set-same table (tx log i) (more (getD table (tx log i) 0) (obj log i)) 0 size)
+          (marked-more _ _ x ∙ →or-left _ b ∙ sym (→or-right _ (→and (→and (→is k) (→is refl)) (→is (sym (is→ b))))))
+      go (inl a) (inr b) =
+          let e : t ≡ tx log i = is→ a in
+          rw (e, getD-set-same table (tx log i) (more (getD table (tx log i) 0) (obj log i)) 0 size)
+          (marked-more _ _ x ∙ or-false b ∙ known (tx log i) x (rw e at h) l ∙ sym (or-no _ (and-no-right _ (→isnt (λ q. isnt→ b (sym q))))))
+      go (inr a) b =
+          rw (getD-set-other table (tx log i) t (more (getD table (tx log i) 0) (obj log i)) 0 (isnt→ a))
+          (known t x h l ∙ sym (or-no _ (and-no-left _ (and-no-right _ (→isnt (λ q. isnt→ a (sym q)))))))
+
+-- WHAT IS WRITTEN BEFORE A STEP, from the first step on
 pub none-written : (log : List ℕ) (n : ℕ) → transactions < n → Written log 0 (replicate n 0)
 unfolding wrote some
-none-written log n h =
-    record { mark = λ (t x : ℕ) (k : t ≤ transactions) (l : x < objects). ap (λ (m : ℕ). marked m x) (getD-replicate n t 0 0 (omega arith)) ∙ no-mark x }
+none-written log n h = record { mark = λ (t x : ℕ) (k : t ≤ transactions) (l : x < objects). none-marked n t x (omega arith) }
 
--- one step more
 module _ (log : List ℕ) (i : ℕ) {table : List ℕ} (w : Written log i table) where
   pub write-skip : (kind log i ≡ 3 → ⊥) → Written log (i + 1) table
-  unfolding wrote writes
-  write-skip k = record { mark = λ t x h l. w .mark t x h l ∙ sym (some-skip i (writes log t x) (and-no-left _ (and-no-left _ (→isnt k)))) }
+  unfolding wrote
+  write-skip k = record { mark = λ t x h l. none-added log i table (w .mark) k t x h l ∙ sym (some-next i (writes log t x)) }
 
   pub write-more : kind log i ≡ 3 → tx log i < length table → Written log (i + 1) (set table (tx log i) (more (getD table (tx log i) 0) (obj log i)))
-  unfolding wrote writes
-  write-more k size = record { mark = λ t x h l. go t x h l (decide (t is tx log i)) (decide (x is obj log i)) }
-    where
-      go : (t x : ℕ) → t ≤ transactions → x < objects → ((t is tx log i) ≡ true) ⊎ ((t is tx log i) ≡ false) → ((x is obj log i) ≡ true) ⊎ ((x is obj log i) ≡ false)
-          → marked (getD (set table (tx log i) (more (getD table (tx log i) 0) (obj log i))) t 0) x ≡ some (i + 1) (writes log t x)
-      go t x h l (inl a) (inl b) =
-          let e : t ≡ tx log i = is→ a in
-          rw (e, getD-set-same table (tx log i) (more (getD table (tx log i) 0) (obj log i)) 0 size)
-          (marked-more _ _ x ∙ →or-left _ b ∙ sym (→some _ i (omega arith) (→and (→and (→is k) (→is refl)) (→is (sym (is→ b))))))
-      go t x h l (inl a) (inr b) =
-          let e : t ≡ tx log i = is→ a in
-          rw (e, getD-set-same table (tx log i) (more (getD table (tx log i) 0) (obj log i)) 0 size)
-          (marked-more _ _ x ∙ or-false b ∙ w .mark (tx log i) x (rw e at h) l ∙ sym (some-skip i (writes log (tx log i) x) (and-no-right _ (→isnt (λ q. isnt→ b (sym q))))))
-      go t x h l (inr a) b =
-          rw (getD-set-other table (tx log i) t (more (getD table (tx log i) 0) (obj log i)) 0 (isnt→ a))
-          (w .mark t x h l ∙ sym (some-skip i (writes log t x) (and-no-left _ (and-no-right _ (→isnt (λ q. isnt→ a (sym q)))))))
+  unfolding wrote
+  write-more k size = record { mark = λ t x h l. one-added log i table (w .mark) k size t x h l ∙ sym (some-next i (writes log t x)) }
 
 -- behind the last step
 pub all-written : (log : List ℕ) {table : List ℕ} → Written log (steps log) table → WriteTable log table
 unfolding wrote writer
 all-written log w = record { mark = w .mark }
+
+-- WHAT IS WRITTEN FROM A STEP ON, from the last step back
+-- some number from i on passes exactly when a later one does, or i
+some-from : (n i : ℕ) (p : ℕ → Bool) → i < n → some n (λ j. i upto j and p j) ≡ (some n (λ j. suc i upto j and p j) or p i)
+some-from n i p l =
+    same-test (λ h. let r = some→ h in let a = and→ (r .2) in split (r .0) (r .1) (upto→ (a .0)) (a .1) (decide (r .0 is i)))
+    (λ h. ⊎-elim further (λ q. →some _ i l (→and (→upto (omega arith)) q)) (or→ h))
+  where
+    split : (j : ℕ) → j < n → i ≤ j → p j ≡ true → ((j is i) ≡ true) ⊎ ((j is i) ≡ false) → (some n (λ j. suc i upto j and p j) or p i) ≡ true
+    split j h k q (inl e) = →or-right _ (rw (is→ {m = j} {n = i} e) at q)
+    split j h k q (inr e) = let z : j ≡ i → ⊥ = isnt→ e in →or-left _ (→some _ j h (→and (→upto (omega arith)) q))
+
+    further : some n (λ j. suc i upto j and p j) ≡ true → some n (λ j. i upto j and p j) ≡ true
+    further h = let r = some→ h in let a = and→ (r .2) in let z : suc i ≤ r .0 = upto→ (a .0) in →some _ (r .0) (r .1) (→and (→upto (omega arith)) (a .1))
+
+module _ (log : List ℕ) where
+  pub none-later : (m n : ℕ) → m ≡ suc transactions → n ≡ steps log → WritesFrom log n (replicate m 0)
+  none-later m n e f =
+      record {
+        size = length-replicate m 0 ∙ e;
+        mark = λ (t x : ℕ) (h : t ≤ transactions) (l : x < objects).
+            none-marked m t x (omega arith) ∙ sym (→none (λ j. n upto j and writes log t x j) (λ (j : ℕ) (k : j < steps log). and-no-left _ (→not-upto (omega arith))));
+      }
+
+  module _ (i : ℕ) {table : List ℕ} (w : WritesFrom log (suc i) table) where
+    pub later-skip : i < steps log → (kind log i ≡ 3 → ⊥) → WritesFrom log i table
+    later-skip s k = record { size = w .size; mark = λ t x h l. none-added log i table (w .mark) k t x h l ∙ sym (some-from (steps log) i (writes log t x) s) }
+
+    pub later-more : i < steps log → kind log i ≡ 3 → tx log i ≤ transactions → WritesFrom log i (set table (tx log i) (more (getD table (tx log i) 0) (obj log i)))
+    later-more s k m =
+        record {
+          size = length-set table (tx log i) _ ∙ w .size;
+          mark = λ t x h l. one-added log i table (w .mark) k (omega (arith, w .size)) t x h l ∙ sym (some-from (steps log) i (writes log t x) s);
+        }
+
+    -- whether t writes x later than step i, by what was read of the table
+    pub by-later : {t u x y : ℕ} {r : Bool} → t ≤ transactions → x < objects → u ≡ t → y ≡ x → r ≡ marked (getD table u 0) y → r ≡ writes-later log i t x
+    unfolding writes-later _below_ _upto_
+    by-later {t} {x} h k a b e = rw (a, b) at e ∙ w .mark t x h k

@@ -3,7 +3,6 @@ pub mod StepAt
 pub mod Marks
 pub mod WriteTable
 pub mod Checking
-pub mod LastWrites
 pub mod Clashes
 pub mod Edges
 pub mod ConflictEdges

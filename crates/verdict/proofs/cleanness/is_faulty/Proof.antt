@@ -2,20 +2,18 @@
 use mathlib.Core.Path.{_≡_, sym, _∙_}
 use mathlib.Core.Bool.{Bool, true}
 use mathlib.Core.Logic.{inl}
-use Prim.Native.Nat.{_+_, _≤_, _<_}
+use Prim.Native.Nat.{_≤_, _<_}
 use native.Mathlib.Omega.{arith}
 use borrow.Author.Needs.{needs}
 use borrow.Author.Tests.{not-true, not-false}
-use Rattle.words.specs.Tests.{_below_}
-use Rattle.words.proofs.Truth.{→below, →not-below}
 use Rattle.verdict.specs.Limits.{transactions, objects}
 use Rattle.verdict.specs.Log.{steps, kind, tx, obj, src, committed}
-use Rattle.verdict.specs.Clean.{judged-other, faulty-read}
+use Rattle.verdict.specs.Clean.{judged-other}
 use Rattle.verdict.proofs.JudgedReads.{other-kind, own-source, reader-fails, judged-read}
 use Rattle.verdict.proofs.Faults.{not-faulty, source-zero, source-open, source-later}
 use Rattle.verdict.proofs.WellFormed.{well-formed}
 use Rattle.verdict.proofs.Matrices.{told-committed}
-use Rattle.verdict.proofs.LastWrites.{by-last}
+use Rattle.verdict.proofs.WriteMarks.{by-later}
 use Rattle.verdict.proofs.cleanness.is_faulty.Statement.{statement}
 use Rattle.verdict.proofs.cleanness.is_faulty.Tie as tie
 
@@ -61,15 +59,6 @@ is-judged c =
     let step = read (another .before) .step-at .ensures in
     judged-read _ _ (is-read (another .before)) (λ e. another .if2 .left (step .src-is ∙ e ∙ sym (step .tx-is))) (reader (c .before) (not-false _ (c .if4 .left)))
 
--- the read is faulty exactly when the source writes the object later
-later : (c : tie.After-last-write) → let a = entry (other (c .before .before .before .before .before)) .args in faulty-read (a .log .now) (a .i) ≡ (a .i + 1 below c .last-write .result)
-later c =
-    let from = c .before .before in
-    let judged = from .before in
-    let here = other (judged .before .before) in
-    let step = read here .step-at .ensures in
-    source-later _ _ (is-judged judged) (not-zero (judged .before .before)) (source from (not-false _ (c .before .if5 .left))) ∙ by-last _ (entry here .pre .3) _ (source-in here) (object-in here) (step .src-is) (step .obj-is) (c .last-write .ensures)
-
 step-at-requires : tie.Need-step-at-requires
 step-at-requires c κs = search needs
 
@@ -105,20 +94,19 @@ returns-5 c =
     let judged = c .before .before in
     sym (source-open _ _ (is-judged judged) (not-zero (judged .before .before)) (source (c .before) (not-true _ (c .if5 .taken))))
 
-add-if6 : tie.Need-add-if6
-add-if6 c = omega arith
-
-last-write-requires : tie.Need-last-write-requires
-last-write-requires c κs =
+object-marked-requires : tie.Need-object-marked-requires
+object-marked-requires c κs =
     let here = other (c .before .before .before .before) in
-    let step = read here .step-at .ensures in
-    (omega (arith, source-in here, step .src-is), omega (arith, object-in here, step .obj-is))
+    omega (arith, source-in here, read here .step-at .ensures .src-is)
 
 returns-6 : tie.Need-returns-6
-returns-6 c = sym (later (c .before) ∙ →below (c .if6 .taken))
-
-returns-7 : tie.Need-returns-7
-returns-7 c = sym (later (c .before) ∙ →not-below (c .if6 .left))
+returns-6 c =
+    let from = c .before .before in
+    let judged = from .before in
+    let here = other (judged .before .before) in
+    let step = read here .step-at .ensures in
+    by-later _ _ (entry here .pre .3) (source-in here) (object-in here) (step .src-is) (step .obj-is) (c .object-marked .ensures)
+    ∙ sym (source-later _ _ (is-judged judged) (not-zero (judged .before .before)) (source from (not-false _ (c .before .if5 .left))))
 
 pub is-faulty-spec : {M : Type 1} → statement M
 is-faulty-spec =
@@ -132,7 +120,5 @@ is-faulty-spec =
     returns-4
     takes-part-requires-2
     returns-5
-    add-if6
-    last-write-requires
-    returns-6
-    returns-7)
+    object-marked-requires
+    returns-6)
