@@ -50,19 +50,19 @@ fn last_committed(log: &[u16], writes: &[u64; Transaction::TABLE], b: usize, x: 
 }
 
 // The table's step for t.
-fn step_of(table: &[usize; Transaction::TABLE], t: u16) -> usize
+fn step_of(table: &[u16; Transaction::TABLE], t: u16) -> usize
     requires { ⌜ t ≤ transactions ⌝ }
     ensures { λ r. ⌜ r ≡ getD (now (table .entry)) t 0 ⌝ }
 {
     let at = index(t);
-    table[at]
+    index(table[at])
 }
 
 // What read i should have found.
 fn wanted(
     log: &[u16],
     writes: &[u64; Transaction::TABLE],
-    begins: &[usize; Transaction::TABLE],
+    begins: &[u16; Transaction::TABLE],
     i: usize,
 ) -> Writer
     requires { ⌜ (log-refusal (now log) ≡ Passed) × WriteTable (now log) (now writes) × FirstSteps (now log) 1 (now begins) × (4 * i + 4 ≤ length (now log)) ⌝ }
@@ -76,8 +76,8 @@ fn wanted(
 // next version has committed too, or the source has not.
 fn is_wrong(
     log: &[u16],
-    begins: &[usize; Transaction::TABLE],
-    commits: &[usize; Transaction::TABLE],
+    begins: &[u16; Transaction::TABLE],
+    commits: &[u16; Transaction::TABLE],
     next: &[u8; Transaction::PAIRS],
     i: usize,
 ) -> bool
@@ -108,8 +108,8 @@ fn is_wrong(
 // The lowest wrong read, or the number of steps where there is none.
 fn first_wrong(
     log: &[u16],
-    begins: &[usize; Transaction::TABLE],
-    commits: &[usize; Transaction::TABLE],
+    begins: &[u16; Transaction::TABLE],
+    commits: &[u16; Transaction::TABLE],
     next: &[u8; Transaction::PAIRS],
 ) -> usize
     requires { ⌜ (log-refusal (now log) ≡ Passed) × FirstSteps (now log) 1 (now begins) × FirstSteps (now log) 4 (now commits)
@@ -130,8 +130,8 @@ fn first_wrong(
 // Whether step j, the commit of t, is the later of two clashing writers, and p is its partner.
 fn clashes(
     writes: &[u64; Transaction::TABLE],
-    begins: &[usize; Transaction::TABLE],
-    commits: &[usize; Transaction::TABLE],
+    begins: &[u16; Transaction::TABLE],
+    commits: &[u16; Transaction::TABLE],
     log: &[u16],
     j: usize,
     t: u16,
@@ -176,8 +176,8 @@ struct Clash {
 fn first_clash(
     log: &[u16],
     writes: &[u64; Transaction::TABLE],
-    begins: &[usize; Transaction::TABLE],
-    commits: &[usize; Transaction::TABLE],
+    begins: &[u16; Transaction::TABLE],
+    commits: &[u16; Transaction::TABLE],
     k: usize,
 ) -> Clash
     requires { ⌜ (log-refusal (now log) ≡ Passed) × WriteTable (now log) (now writes) × FirstSteps (now log) 1 (now begins)

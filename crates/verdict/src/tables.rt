@@ -15,16 +15,16 @@ ghost use Rattle.verdict.specs.Inner.WriteTable.{WriteTable};
 ghost use Rattle.verdict.specs.declared.answers.Checked.the-variants.{Passed};
 
 // For each transaction, its first step of kind k, or the number of steps where there is none.
-pub(crate) fn first_steps(log: &[u16], k: u16) -> [usize; Transaction::TABLE]
+pub(crate) fn first_steps(log: &[u16], k: u16) -> [u16; Transaction::TABLE]
     requires { ⌜ log-refusal (now log) ≡ Passed ⌝ }
     ensures { λ r. ⌜ FirstSteps (now (log .entry)) k r ⌝ }
 {
-    let n = log.len() / 4;
+    let n = (log.len() / 4) as u16;
     let mut table = [n; Transaction::TABLE];
     let mut i = n;
     while 0 < i {
         i -= 1;
-        let step = step_at(log, i);
+        let step = step_at(log, i as usize);
         if step.kind == k {
             let t = index(step.tx);
             table[t] = i;

@@ -8,7 +8,7 @@ use Rattle.verdict.specs.Limits.{transactions}
 use Rattle.verdict.specs.Log.{steps, tx}
 use Rattle.verdict.specs.Refusal.{log-refusal}
 use Rattle.verdict.specs.declared.answers.Checked.the-variants.{Passed}
-use Rattle.verdict.proofs.WellFormed.{well-formed}
+use Rattle.verdict.proofs.WellFormed.{well-formed, steps-within}
 use Rattle.verdict.proofs.FirstSteps.{StepsFrom, steps-none, steps-skip, steps-more, steps-all}
 use Rattle.verdict.proofs.tables.first_steps.Statement.{statement}
 use Rattle.verdict.proofs.tables.first_steps.Tie as tie
@@ -37,12 +37,19 @@ place-in c =
     let here = c .before .before in
     omega (arith, c .index .ensures, here .before .step-at .ensures .tx-is, tx-in here)
 
+cast-n : tie.Need-cast-n Inv-loop μ-loop
+unfolding steps
+cast-n c = omega (arith, steps-within _ (c .before .pre))
+
 loop-holds : tie.Need-loop-holds Inv-loop μ-loop
 unfolding steps
 loop-holds c = (omega arith, c .before .pre, steps-none _ _ 129 _ refl refl)
 
 sub-i : tie.Need-sub-i Inv-loop μ-loop
 sub-i c = omega arith
+
+cast-step-at : tie.Need-cast-step-at Inv-loop μ-loop
+cast-step-at c = omega arith
 
 step-at-requires : tie.Need-step-at-requires Inv-loop μ-loop
 step-at-requires c κs = omega arith
@@ -88,8 +95,10 @@ first-steps-spec =
     (tie.spec
     Inv-loop
     μ-loop
+    cast-n
     loop-holds
     sub-i
+    cast-step-at
     step-at-requires
     index-requires
     mul-table
