@@ -19,6 +19,7 @@ pub mod SnapshotLaws
 pub mod WrongReads
 pub mod Clashing
 pub mod Loosely
+pub mod Placements
 pub mod Noting
 pub mod Latest
 pub mod Matrices

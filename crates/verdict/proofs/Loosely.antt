@@ -2,32 +2,26 @@
 use mathlib.Core.Path.{_≡_, refl, sym, ap, subst, _∙_}
 use mathlib.Core.Bool.{Bool, true, false, false≢true}
 use mathlib.Core.Logic.{_⊎_, inl, inr, ⊎-elim}
-use mathlib.Core.List.{List, [], _∷_, _++_, append-nil, append-assoc}
-use Prim.Native.Nat.{ℕ, zero, suc, _+_, _-_, _*_, _≤_, _<_}
+use mathlib.Core.List.{List, [], _∷_, _++_, append-nil}
+use Prim.Native.Nat.{ℕ, zero, suc, _+_, _-_, _≤_, _<_}
 use native.Mathlib.Omega.{arith}
 use native.Mathlib.Numerals.{add-one}
 use lib.ListN.{length, getD, set, take}
 use lib.Seq.{take-suc-set}
-use Rattle.words.specs.Tests.{_is_, _below_, _and_, _or_, _implies_, fails, if_then_else_, some, every, count}
+use Rattle.words.specs.Tests.{_is_, _below_, _and_, _or_, _implies_, if_then_else_, every}
 use Rattle.words.specs.Lists.{member, distinct}
 use Rattle.words.specs.First.{dictionary, First, Never}
-use Rattle.graph.specs.Matrix.{takes-part}
-use Rattle.graph.specs.Inner.Peel.{unmarked}
 use Rattle.graph.specs.Order.{once-each}
-use Rattle.graph.proofs.Sized.{part-less}
-use Rattle.bits.specs.Word.{marked}
-use Rattle.words.proofs.Truth.{decide, not-both, to-false, to-true, and→, →and, and-true-right, and-no-left, and-no-right, →or-left, →or-right, or-false, fails→, →fails, →not-fails, implies→, →implies, is→, →is, isnt→, →isnt, below→, →below, not-below→, if-true, if-false, every→, →every, some→, count-none, none-counted}
-use Rattle.words.proofs.Places.{member→, member-head, member-tail, all→, →all, distinct→, member-left, member-right, member-either}
+use Rattle.words.proofs.Truth.{decide, not-both, to-false, and→, →and, and-true-right, and-no-left, and-no-right, →or-left, →or-right, or-false, →fails, implies→, →implies, is→, →is, isnt→, →isnt, below→, →below, not-below→, if-true, if-false, every→, →every}
+use Rattle.words.proofs.Places.{member→, member-head, member-tail, all→, →all, distinct→, member-right, member-either}
 use Rattle.words.proofs.Dictionary.{dictionary-not}
 use Rattle.verdict.specs.Limits.{transactions, objects}
 use Rattle.verdict.specs.Log.{steps, tx, obj, src, committed, writer}
 use Rattle.verdict.specs.Clean.{judged, judged-other, is-clean}
 use Rattle.verdict.specs.Replay.{finds, reads-right, serial, explains-loosely}
-use Rattle.verdict.specs.Inner.WriteTable.{WriteTable}
-use Rattle.verdict.specs.Inner.Placing.{barred, needing, allows, needs-source, need, ran, Needs, CommittedList, Placed, Searched, found, missed}
+use Rattle.verdict.specs.Inner.Placing.{barred, needing, allows, needs-source, need, ran, CommittedList, Replayed}
 use Rattle.verdict.proofs.WellFormed.{Well}
 use Rattle.verdict.proofs.Versions.{committed-range}
-use Rattle.verdict.proofs.Marks.{taken-away}
 use Rattle.verdict.proofs.JudgedReads.{is-read}
 
 implies-true : {a b : Bool} → a ≡ true → (a implies b) ≡ b
@@ -198,7 +192,7 @@ module _ (log : List ℕ) (well : Well transactions log) where
       let r = and→ (s .0) in
       (r .0, λ a m. and→ (all→ _ w (r .1) a m) .1, λ (t : ℕ) (l : t ≤ transactions) c. implies→ (every→ _ (s .1) t (omega arith)) c)
 
-  module _ (p free last : List ℕ) (placed : Placed log p free last) where
+  module _ (p last : List ℕ) (placed : Replayed log p last) where
     bound : (x : ℕ) → ran log x 0 p ≤ transactions
     bound x = ran-bound log x transactions 0 p (omega arith) (λ a m. committed-range log well a (all→ _ p (placed .members) a m) .1)
 
@@ -221,15 +215,13 @@ module _ (log : List ℕ) (well : Well transactions log) where
               let q = implies→ (every→ _ (sym (allowed t x) ∙ f x (well .object i h (inl (is-read log i j)))) i h) a in
               subst (λ (r : ℕ). finds log x r 0 (p ++ t ∷ []) ≡ src log i) (sym e) (finds-behind log x t 0 p [] n ∙ is→ q)
 
-      pub placed-more : ((x : ℕ) → x < objects → allows (need log t x (steps log)) (ran log x 0 p) ≡ true) → (free′ last′ : List ℕ)
-          → ((a : ℕ) → takes-part transactions free′ a ≡ (committed log a and fails (member a (p ++ t ∷ []))))
-          → ((x : ℕ) → x < objects → getD last′ x 0 ≡ (if writer log x t then t else getD last x 0)) → Placed log (p ++ t ∷ []) free′ last′
-      placed-more f free′ last′ m w =
+      pub placed-more : ((x : ℕ) → x < objects → allows (need log t x (steps log)) (ran log x 0 p) ≡ true) → (last′ : List ℕ)
+          → ((x : ℕ) → x < objects → getD last′ x 0 ≡ (if writer log x t then t else getD last x 0)) → Replayed log (p ++ t ∷ []) last′
+      placed-more f last′ w =
           record {
             different = distinct-more t p (placed .different) n;
             members = →all _ (p ++ t ∷ []) (λ a k. ⊎-elim (λ l. all→ _ p (placed .members) a l) (λ (l : member a (t ∷ []) ≡ true). ⊎-elim (λ (e : a ≡ t). rw e c) (λ (z : member a [] ≡ true). absurd (false≢true (unfold member in z))) (member→ a t [] l)) (member-either a p (t ∷ []) k));
             right = right-more f;
-            left = m;
             writers = λ x h. w x h ∙ ap (λ (v : ℕ). if writer log x t then t else v) (placed .writers x h) ∙ sym (ran-more log x 0 t p);
           }
 
@@ -245,7 +237,7 @@ module _ (log : List ℕ) (well : Well transactions log) where
               ∙ subst (λ (y : ℕ). finds log y t 0 (p ++ t ∷ u) ≡ src log i) (q .2) (subst (λ (y : ℕ). finds log (obj log i) y 0 (p ++ t ∷ u) ≡ src log i) (q .1) r)
 
     -- what goes on behind p is left
-    goes-on : (a : ℕ) (u : List ℕ) → explains-loosely transactions log (p ++ a ∷ u) ≡ true → (committed log a ≡ true) × (member a p ≡ false)
+    pub goes-on : (a : ℕ) (u : List ℕ) → explains-loosely transactions log (p ++ a ∷ u) ≡ true → (committed log a ≡ true) × (member a p ≡ false)
     goes-on a u h = let s = serial-of (p ++ a ∷ u) h in (s .1 a (member-right a p (a ∷ u) (member-head a u)), distinct-behind a p u (s .0))
 
     -- p alone does not explain while one is left, and does when none is
@@ -303,81 +295,3 @@ module _ (log : List ℕ) {p ones : List ℕ} {n i : ℕ} (tried : Tried log p o
     where
       later : (k : ℕ) → i ≤ k → k < n → getD ones k 0 ≡ a → ⊥
       later k m b q = ⊎-elim (λ (e : (i below k) ≡ true). omega (arith, list .rising i k (below→ e) b)) (λ (e : (i below k) ≡ false). let z : k ≡ i = omega (arith, not-below→ e) in let w : getD ones i 0 ≡ a = rw z at q in omega arith) (decide (i below k))
-
--- THE SEARCH, STEP BY STEP
-module _ (log : List ℕ) (well : Well transactions log) (p free last : List ℕ) (placed : Placed log p free last) where
-  -- who is left committed and is not placed
-  left→ : (t : ℕ) → takes-part transactions free t ≡ true → (committed log t ≡ true) × (member t p ≡ false)
-  left→ t m = let r = and→ (sym (placed .left t) ∙ m) in (r .0, fails→ (r .1))
-
-  -- all are placed
-  pub search-done : (n : ℕ) (order : List ℕ) → is-clean log ≡ true → count (suc transactions) (takes-part transactions free) ≡ 0 → take n order ≡ p → Searched log p n true order
-  search-done n order cl z e =
-      found []
-      (record {
-        one = all-placed log well p free last placed cl (λ (t : ℕ) (h : t ≤ transactions) c. to-true _ (λ k. not-both (→and c (→fails k)) (sym (placed .left t) ∙ none-counted (suc transactions) (takes-part transactions free) z t (omega arith))));
-        none-earlier = λ v h. unfold dictionary in refl;
-      })
-      (e ∙ sym (append-nil p))
-
-  -- those that are not left start nothing, nor those that are not in the list
-  pub not-left : (t : ℕ) → takes-part transactions free t ≡ false → Never (λ v. explains-loosely transactions log (p ++ t ∷ v))
-  not-left t z v = to-false _ (λ k. let r = goes-on log well p free last placed t v k in not-both (→and (r .0) (→fails (r .1))) (sym (placed .left t) ∙ z))
-
-  pub tried-none : {ones : List ℕ} {n : ℕ} → CommittedList log ones n → Tried log p ones n 0
-  tried-none list = record { never = λ d f v. to-false _ (λ k. let r = list .every-one d (goes-on log well p free last placed d v k .0) in f (r .0) (omega arith) (r .1) (r .2)) }
-
-  -- one that is left
-  module _ (t : ℕ) (m : takes-part transactions free t ≡ true) {table : List ℕ} (needs : Needs log table) where
-    is-left : (committed log t ≡ true) × (member t p ≡ false)
-    is-left = left→ t m
-
-    range : (1 ≤ t) × (t ≤ transactions)
-    range = committed-range log well t (is-left .0)
-
-    finding : (x : ℕ) → x < objects → allows (getD table (t * objects + x) 0) (getD last x 0) ≡ allows (need log t x (steps log)) (ran log x 0 p)
-    finding x k = rw (needs .entry t x (is-left .0) (range .1) k, placed .writers x k) refl
-
-    pub not-fitting : every objects (λ x. allows (getD table (t * objects + x) 0) (getD last x 0)) ≡ false → Never (λ v. explains-loosely transactions log (p ++ t ∷ v))
-    not-fitting f v = to-false _ (λ e. not-both (→every _ (λ x k. finding x k ∙ to-true _ (λ q. not-both e (never-placed log well p free last placed t (is-left .0) (is-left .1) x q v)))) f)
-
-    pub fitting : every objects (λ x. allows (getD table (t * objects + x) 0) (getD last x 0)) ≡ true → {writes : List ℕ} → WriteTable log writes → transactions ≤ length free → (last′ : List ℕ)
-        → ((x : ℕ) → x < objects → getD last′ x 0 ≡ (if marked (getD writes t 0) x then t else getD last x 0)) → Placed log (p ++ t ∷ []) (set free (t - 1) 0) last′
-    fitting f {writes} w long last′ g =
-        placed-more log well p free last placed t (is-left .0) (is-left .1) (λ x k. sym (finding x k) ∙ every→ _ f x k) (set free (t - 1) 0) last′
-        (λ a. taken-away free t a long (range .0) (range .1) ∙ ap (λ (b : Bool). b and fails (a is t)) (placed .left a) ∙ one-less a)
-        (λ x k. g x k ∙ rw (w .mark t x (range .1) k) refl)
-      where
-        one-less : (a : ℕ) → ((committed log a and fails (member a p)) and fails (a is t)) ≡ (committed log a and fails (member a (p ++ t ∷ [])))
-        one-less a = go (decide (member a p)) (decide (a is t))
-          where
-            go : (member a p ≡ true) ⊎ (member a p ≡ false) → ((a is t) ≡ true) ⊎ ((a is t) ≡ false) → ((committed log a and fails (member a p)) and fails (a is t)) ≡ (committed log a and fails (member a (p ++ t ∷ [])))
-            go (inl k) q = and-no-left _ (and-no-right _ (→not-fails k)) ∙ sym (and-no-right _ (→not-fails (member-left a p (t ∷ []) k)))
-            go (inr k) (inl q) = and-no-right _ (→not-fails q) ∙ sym (and-no-right _ (→not-fails (member-right a p (t ∷ []) (unfold member in (→or-left _ q)))))
-            go (inr k) (inr q) =
-                and-true-right _ (→fails q) ∙ and-true-right _ (→fails k)
-                ∙ sym (and-true-right _ (→fails (to-false _ (λ e. ⊎-elim (λ l. not-both l k) (λ (l : member a (t ∷ []) ≡ true). ⊎-elim (λ (z : a ≡ t). isnt→ q z) (λ (z : member a [] ≡ true). false≢true (unfold member in z)) (member→ a t [] l)) (member-either a p (t ∷ []) e)))))
-
-    pub one-fewer : transactions ≤ length free → suc (count (suc transactions) (takes-part transactions (set free (t - 1) 0))) ≡ count (suc transactions) (takes-part transactions free)
-    unfolding unmarked
-    one-fewer long = sym (part-less transactions [] free long t m)
-
-    -- what is found behind it is found, and what is missed is missed
-    pub search-found : {n : ℕ} {order : List ℕ} → ((a : ℕ) → a < t → Never (λ v. explains-loosely transactions log (p ++ a ∷ v))) → Searched log (p ++ t ∷ []) n true order → Searched log p n true order
-    search-found f (found u g e) =
-        found (t ∷ u)
-        (first-head (λ v. explains-loosely transactions log (p ++ v)) (not-all log well p free last placed t (is-left .0) (is-left .1)) t u f
-        (record { one = rw (append-assoc p (t ∷ []) u) at (g .one); none-earlier = λ v k. g .none-earlier v (rw (append-assoc p (t ∷ []) v) k) }))
-        (e ∙ append-assoc p (t ∷ []) u)
-
-    pub search-missed : {n : ℕ} {order : List ℕ} → Searched log (p ++ t ∷ []) n false order → Never (λ v. explains-loosely transactions log (p ++ t ∷ v))
-    search-missed (missed g) v = rw (append-assoc p (t ∷ []) v) at (g v)
-
-  -- none of those left goes on
-  pub search-none : {ones : List ℕ} (n : ℕ) (order : List ℕ) → (count (suc transactions) (takes-part transactions free) ≡ 0 → ⊥) → Tried log p ones n n → Searched log p n false order
-  search-none n order z tried =
-      missed (no-head (λ v. explains-loosely transactions log (p ++ v)) (one-left (decide (some (suc transactions) (takes-part transactions free)))) (λ a. tried .never a (λ (k : ℕ) (l : n ≤ k) (h : k < n) q. omega arith)))
-    where
-      one-left : (some (suc transactions) (takes-part transactions free) ≡ true) ⊎ (some (suc transactions) (takes-part transactions free) ≡ false) → explains-loosely transactions log (p ++ []) ≡ false
-      one-left (inl k) = let r = some→ k in let q = left→ (r .0) (r .2) in not-all log well p free last placed (r .0) (q .0) (q .1)
-      one-left (inr k) = absurd (z (count-none _ _ k))

@@ -1,18 +1,14 @@
 -- Marks: a table that says of each number whether it passes a test.
-use mathlib.Core.Path.{_≡_, sym, ap, _∙_}
+use mathlib.Core.Path.{_≡_, sym, _∙_}
 use mathlib.Core.Bool.{Bool, true, false}
 use mathlib.Core.Logic.{_⊎_, inl, inr}
-use mathlib.Core.List.{List, []}
-use Prim.Native.Nat.{ℕ, _+_, _-_, _≤_, _<_}
+use mathlib.Core.List.{List}
+use Prim.Native.Nat.{ℕ, _+_, _≤_, _<_}
 use native.Mathlib.Omega.{arith}
 use lib.ListN.{length, getD, set, replicate, getD-replicate}
 use lib.Seq.{getD-set-same, getD-set-other}
-use Rattle.words.specs.Tests.{_is_, _and_, fails, some}
+use Rattle.words.specs.Tests.{_is_, fails, some}
 use Rattle.words.proofs.Truth.{decide, →fails, →not-fails, →is, →isnt, is→, isnt→, →some, some-skip}
-use Rattle.graph.specs.Matrix.{takes-part}
-use Rattle.graph.specs.Inner.Peel.{without, unmarked as away}
-use Rattle.graph.proofs.Marks.{parts-without}
-use Rattle.verdict.specs.Limits.{transactions}
 use Rattle.verdict.specs.Inner.Marks.{Marked}
 
 -- no mark, and nothing passes
@@ -49,8 +45,3 @@ table-more f table t v h g e u k = go (decide (u is t))
     go : ((u is t) ≡ true) ⊎ ((u is t) ≡ false) → getD (set table t v) u 0 ≡ f u
     go (inl q) = let z : u ≡ t = is→ q in rw (z, getD-set-same table t v 0 h) e
     go (inr q) = let n : u ≡ t → ⊥ = isnt→ q in rw (getD-set-other table t u v 0 n) (g u (omega arith))
-
--- where the mark of t is taken away, t takes part no more, and the others as before
-pub taken-away : (part : List ℕ) (t c : ℕ) → transactions ≤ length part → 1 ≤ t → t ≤ transactions → takes-part transactions (set part (t - 1) 0) c ≡ (takes-part transactions part c and fails (c is t))
-unfolding away without
-taken-away part t c long low high = ap (λ (f : ℕ → Bool). f c) (parts-without transactions [] part long t low high)

@@ -1,20 +1,22 @@
 -- The exact search from its beginning to its answer.
 use mathlib.Core.Path.{_≡_, refl, sym, ap, subst, _∙_}
-use mathlib.Core.Bool.{true, false, false≢true}
+use mathlib.Core.Bool.{Bool, true, false, false≢true}
 use mathlib.Core.Logic.{_⊎_, inl, inr}
 use mathlib.Core.List.{List, [], _∷_, _++_}
-use Prim.Native.Nat.{ℕ, suc, _+_, _-_, _≤_, _<_}
+use Prim.Native.Nat.{ℕ, zero, suc, _+_, _-_, _≤_, _<_}
 use native.Mathlib.Omega.{arith}
 use lib.ListN.{length, getD, set, take, replicate, getD-replicate}
 use lib.Seq.{length-take-le, take-suc}
+use lib.Pow.{pow-pos}
 use native.Mathlib.Numerals.{add-one}
 use Rattle.words.specs.Tests.{_below_, count}
 use Rattle.words.specs.Lists.{member, all, distinct, zeros, entries}
 use Rattle.words.specs.First.{dictionary, First}
-use Rattle.graph.specs.Matrix.{takes-part}
 use Rattle.verdict.specs.Outcome.{order, none, said, members}
 use Rattle.verdict.specs.Judgement.{Holds}
-use Rattle.words.proofs.Truth.{decide, and-true-right, →fails, →below, →not-below, not-below→, count-same}
+use Rattle.words.proofs.Truth.{decide, →fails, →below, →not-below, not-below→, if-true}
+use Rattle.bits.specs.Word.{marked}
+use Rattle.bits.proofs.Marks.{mark-not, no-mark}
 use Rattle.verdict.specs.Limits.{transactions, most-searched}
 use Rattle.verdict.specs.Log.{committed-count}
 use Rattle.verdict.specs.declared.answers.Checked.the-variants.{Passed, Refused}
@@ -22,7 +24,6 @@ use Rattle.verdict.specs.Refusal.{log-refusal, search-refusal}
 use Rattle.verdict.specs.Clean.{is-clean}
 use Rattle.verdict.specs.Replay.{explains-loosely}
 use Rattle.verdict.specs.Exact.{Exact, exact, exact-none}
-use Rattle.verdict.specs.Inner.Marks.{Committed}
 use Rattle.verdict.specs.Inner.Placing.{ran, CommittedList, Placed, Searched, found, missed}
 use Rattle.verdict.specs.declared.answers.Answer.the-variants.{Order}
 use Rattle.verdict.proofs.Refused.{when-yes, when-no}
@@ -35,20 +36,24 @@ module _ (log : List ℕ) {ones : List ℕ} {n : ℕ} (list : CommittedList log 
   pub few-enough : log-refusal log ≡ Passed → committed-count log ≤ most-searched → n ≤ most-searched
   few-enough well h = omega (arith, list .counted, committed-fit log (well-formed log well))
 
-  pub all-left : {part : List ℕ} → Committed log part → n ≡ count (suc transactions) (takes-part transactions part)
-  all-left m = list .counted ∙ sym (count-same (suc transactions) _ _ (λ t h. m .mark t))
+-- what all pass is counted at each
+all-counted : (n : ℕ) (p : ℕ → Bool) → ((i : ℕ) → i < n → p i ≡ true) → count n p ≡ n
+unfolding count
+all-counted zero p f = refl
+all-counted (suc n) p f = if-true _ _ (f n (omega arith)) ∙ ap suc (all-counted n p (λ (i : ℕ) (h : i < n). f i (omega arith)))
 
--- at first nothing is placed
-pub nothing-placed : (log part : List ℕ) → Committed log part → Placed log [] part (replicate 64 0)
+-- at first nothing is placed, and each place of the list is marked
+pub nothing-placed : (log ones : List ℕ) {n : ℕ} → n ≤ most-searched → Placed log ones n (record { free = 255; last = replicate 64 0; placed = replicate 8 0; at = 0 })
 unfolding distinct all ran
-nothing-placed log part m =
+nothing-placed log ones {n} few =
     record {
-      different = refl;
-      members = refl;
-      right = λ i h j k. absurd (false≢true (unfold member in k));
-      left = λ t. m .mark t ∙ sym (and-true-right _ (→fails (unfold member in refl)));
-      writers = λ x h. getD-replicate 64 x 0 0 h;
+      so-far = record { different = refl; members = refl; right = λ i h j k. absurd (false≢true (unfold member in k)); writers = λ x h. getD-replicate 64 x 0 0 h };
+      left = λ i h. every-place i (omega arith) ∙ sym (→fails (unfold member in refl));
+      fills = omega (arith, all-counted n (marked 255) (λ i h. every-place i (omega arith)));
     }
+  where
+    every-place : (i : ℕ) → i < 8 → marked 255 i ≡ true
+    every-place i h = mark-not 8 0 i (pow-pos 8) h ∙ →fails (no-mark i)
 
 -- what is found is the answer
 pub order-found : (log : List ℕ) (n : ℕ) (array list : List ℕ) → n ≤ length array → Searched log [] n true array → list ≡ entries transactions (take n array)

@@ -10,10 +10,9 @@ use crate::step::step_at;
 use crate::walk::index;
 ghost use mathlib.Core.Path.{_≡_};
 ghost use mathlib.Core.Bool.{true};
-ghost use Prim.Native.Nat.{ℕ, suc, _≤_, _<_, _+_, _*_};
+ghost use Prim.Native.Nat.{ℕ, _≤_, _<_, _+_, _*_};
 ghost use lib.ListN.{length, getD, take};
-ghost use Rattle.words.specs.Tests.{every, count};
-ghost use Rattle.graph.specs.Matrix.{takes-part};
+ghost use Rattle.words.specs.Tests.{every};
 ghost use Rattle.verdict.specs.Limits.{transactions, objects, most-searched};
 ghost use Rattle.verdict.specs.Log.{committed-count};
 ghost use Rattle.verdict.specs.Refusal.{log-refusal};
@@ -22,7 +21,7 @@ ghost use Rattle.words.specs.Lists.{entries};
 ghost use Rattle.verdict.specs.Judgement.{Holds};
 ghost use Rattle.verdict.specs.Exact.{Exact};
 ghost use Rattle.verdict.specs.Inner.Marks.{Committed};
-ghost use Rattle.verdict.specs.Inner.Placing.{needing, allows, Needs, NeededOf, CommittedList, Placed, Searched};
+ghost use Rattle.verdict.specs.Inner.Placing.{needing, allows, may-follow, Needs, NeededOf, CommittedList, placed-of, OneMore, Placed, Searchable, Searched};
 ghost use Rattle.verdict.specs.Inner.WriteTable.{WriteTable};
 ghost use Rattle.verdict.specs.declared.answers.Checked.the-variants.{Passed};
 
@@ -54,6 +53,9 @@ fn with_source(e: u16, s: u16) -> u16
     }
     255
 }
+
+// A mark for each place of the list of the committed transactions.
+const EVERY_PLACE: u64 = 255;
 
 // The committed transactions, the lowest first, and how many they are.
 struct Roster {
@@ -162,69 +164,92 @@ fn fits(need: &[u16; Transaction::PAIRS], marks: u64, last: &[u16; Object::TABLE
     true
 }
 
+// Where a search stands: the places of the list that are left, as marks, the last writer of each object, and the order, of which the first `at` are placed.
+struct Run {
+    free: u64,
+    last: [u16; Object::TABLE],
+    placed: [u16; Transaction::SEARCHED],
+    at: usize,
+}
+
+// Whether the one at place i of the list is left and would find what it needs.
+fn may_follow(
+    need: &[u16; Transaction::PAIRS],
+    ones: &[u16; Transaction::SEARCHED],
+    asks: &[u64; Transaction::SEARCHED],
+    run: Run,
+    i: usize,
+) -> bool
+    requires { ⌜ (i < most-searched) × (getD (now ones) i 0 ≤ transactions) × NeededOf (now need) (getD (now ones) i 0) (getD (now asks) i 0) ⌝ }
+    ensures { λ r. ⌜ r ≡ may-follow (now (need .entry)) (now (ones .entry)) run i ⌝ }
+{
+    if !bits::has_mark(run.free, i) {
+        return false;
+    }
+    let last = run.last;
+    fits(need, asks[i], &last, ones[i])
+}
+
+// The run with the one at place i of the list placed next.
+fn with_placed(
+    writes: &[u64; Transaction::TABLE],
+    ones: &[u16; Transaction::SEARCHED],
+    run: Run,
+    i: usize,
+) -> Run
+    requires { ⌜ (i < most-searched) × (getD (now ones) i 0 ≤ transactions) × (run .at < most-searched) ⌝ }
+    ensures { λ r. ⌜ OneMore (now (writes .entry)) (getD (now (ones .entry)) i 0) i run r ⌝ }
+{
+    let t = ones[i];
+    let at = run.at;
+    let free = bits::without_mark(run.free, i);
+    let before = run.last;
+    let last = bits::put_marked(before, writes[index(t)], t);
+    let mut placed = run.placed;
+    placed[at] = t;
+    Run {
+        free,
+        last,
+        placed,
+        at: at + 1,
+    }
+}
+
 // What a search finds: whether there is an order, and the order.
 struct Search {
     found: bool,
     order: [u16; Transaction::SEARCHED],
 }
 
-// The first order that explains loosely and begins with the first `at` placed; `left` more are to be placed.
+// The first order of the n on the list that explains loosely and begins with what is placed.
 fn place(
     log: &[u16],
     need: &[u16; Transaction::PAIRS],
     writes: &[u64; Transaction::TABLE],
     ones: &[u16; Transaction::SEARCHED],
     asks: &[u64; Transaction::SEARCHED],
-    free: [u8; Transaction::COUNT],
-    last: [u16; Object::TABLE],
-    placed: [u16; Transaction::SEARCHED],
-    at: usize,
-    left: usize,
+    run: Run,
+    n: usize,
 ) -> Search
-    requires { ⌜ (log-refusal (now log) ≡ Passed) × (is-clean (now log) ≡ true) × Needs (now log) (now need) × WriteTable (now log) (now writes)
-        × CommittedList (now log) (now ones) (at + left) × ((i : ℕ) → i < at + left → NeededOf (now need) (getD (now ones) i 0) (getD (now asks) i 0)) × (at + left ≤ most-searched) × (left ≡ count (suc transactions) (takes-part transactions free))
-        × Placed (now log) (take at placed) free last ⌝ }
-    ensures { λ r. ⌜ Searched (now (log .entry)) (take at placed) (at + left) (r .found) (r .order) ⌝ }
+    requires { ⌜ Searchable (now log) (now need) (now writes) (now ones) (now asks) n × Placed (now log) (now ones) n run ⌝ }
+    ensures { λ r. ⌜ Searched (now (log .entry)) (placed-of run) n (r .found) (r .order) ⌝ }
 {
-    if left == 0 {
-        return Search {
-            found: true,
-            order: placed,
-        };
-    }
     let mut i = 0;
-    while i < at + left {
-        let t = ones[i];
-        if takes_part(&free, t) {
-            if fits(need, asks[i], &last, t) {
-                let mut rest = free;
-                rest[index(t) - 1] = 0;
-                let mut next = placed;
-                next[at] = t;
-                let then = bits::put_marked(last, writes[index(t)], t);
-                let behind = place(
-                    log,
-                    need,
-                    writes,
-                    ones,
-                    asks,
-                    rest,
-                    then,
-                    next,
-                    at + 1,
-                    left - 1,
-                );
-                let found = behind.found;
-                if found {
-                    return behind;
-                }
+    while i < n {
+        if may_follow(need, ones, asks, run, i) {
+            let next = with_placed(writes, ones, run, i);
+            let behind = place(log, need, writes, ones, asks, next, n);
+            let found = behind.found;
+            if found {
+                return behind;
             }
         }
         i += 1;
     }
+    let order = run.placed;
     Search {
-        found: false,
-        order: placed,
+        found: run.at == n,
+        order,
     }
 }
 
@@ -258,18 +283,13 @@ pub(crate) fn find_order(
     let asks = all_needed(&need, &ones, left);
     let last = [0u16; Object::TABLE];
     let placed = [0u16; Transaction::SEARCHED];
-    let result = place(
-        log,
-        &need,
-        writes,
-        &ones,
-        &asks,
-        part,
+    let run = Run {
+        free: EVERY_PLACE,
         last,
         placed,
-        0,
-        left,
-    );
+        at: 0,
+    };
+    let result = place(log, &need, writes, &ones, &asks, run, left);
     let found = result.found;
     if !found {
         return without_members(Answer::None);

@@ -4,15 +4,18 @@ use mathlib.Core.Bool.{Bool, true, false}
 use mathlib.Core.List.{List, [], _∷_, _++_}
 use Prim.Native.Nat.{ℕ, zero, suc, _+_, _*_, _≤_, _<_}
 use lib.ListN.{getD, take}
-use Rattle.words.specs.Tests.{_is_, _and_, _or_, fails, if_then_else_, count}
+use Rattle.words.specs.Tests.{_is_, _and_, _or_, fails, if_then_else_, every, count}
 use Rattle.words.specs.Lists.{member, all, distinct}
 use Rattle.words.specs.First.{dictionary, First, Never}
-use Rattle.bits.specs.Word.{marked}
-use Rattle.verdict.specs.Limits.{transactions, objects}
+use Rattle.bits.specs.Word.{marked, less}
+use Rattle.verdict.specs.Limits.{transactions, objects, most-searched}
 use Rattle.verdict.specs.Log.{steps, tx, obj, src, committed, writer}
-use Rattle.verdict.specs.Clean.{judged-other}
+use Rattle.verdict.specs.Refusal.{log-refusal}
+use Rattle.verdict.specs.Clean.{judged-other, is-clean}
 use Rattle.verdict.specs.Replay.{finds, explains-loosely}
-use Rattle.graph.specs.Matrix.{takes-part}
+use Rattle.verdict.specs.Inner.WriteTable.{WriteTable}
+use Rattle.verdict.specs.declared.answers.Checked.the-variants.{Passed}
+use Rattle.verdict.specs.declared.search.Run.{Run}
 
 -- a need is 0 for none, a source and 1, or more than any of these where no source will do
 unfoldable pub barred : ℕ
@@ -29,6 +32,21 @@ allows e v = e is 0 or e is suc v
 -- the marks are the objects of which t needs to find something, by the table of needs
 pub record NeededOf (need : List ℕ) (t marks : ℕ) : Type 0 where
   pub mark : (x : ℕ) → x < objects → marked marks x ≡ fails (getD need (t * objects + x) 0 is 0)
+
+-- the one at place i of the list is left and would find what it needs
+unfoldable pub may-follow : List ℕ → List ℕ → Run → ℕ → Bool
+may-follow need ones run i = marked (run .free) i and every objects (λ x. allows (getD need (getD ones i 0 * objects + x) 0) (getD (run .last) x 0))
+
+-- those that are placed
+abbrev pub placed-of : Run → List ℕ
+placed-of run = take (run .at) (run .placed)
+
+-- the run with t placed next, which stands at place i of the list
+pub record OneMore (writes : List ℕ) (t i : ℕ) (run next : Run) : Type 0 where
+  pub behind : placed-of next ≡ placed-of run ++ t ∷ []
+  pub more : next .at ≡ run .at + 1
+  pub taken : next .free ≡ less (run .free) i
+  pub written : (x : ℕ) → x < objects → getD (next .last) x 0 ≡ (if marked (getD writes t 0) x then t else getD (run .last) x 0)
 
 module _ (log : List ℕ) where
   -- step i is a judged read of x by t from another
@@ -56,14 +74,29 @@ module _ (log : List ℕ) where
     pub every-one : (t : ℕ) → committed log t ≡ true → (i : ℕ) × (i < n) × (getD ones i 0 ≡ t)
     pub counted : n ≡ count (suc transactions) (committed log)
 
-  -- p is placed: different committed transactions whose judged reads find their sources;
-  -- in free those take part that are left, and last has the last writer of each object
-  pub record Placed (p free last : List ℕ) : Type 0 where
+  -- a well-formed, clean log with the tables that the search goes by: what each needs and writes,
+  -- the n on the list, and the objects of which each of them needs something
+  pub record Searchable (table writes ones asks : List ℕ) (n : ℕ) : Type 0 where
+    pub passed : log-refusal log ≡ Passed
+    pub clean : is-clean log ≡ true
+    pub needs : Needs table
+    pub written : WriteTable log writes
+    pub list : CommittedList ones n
+    pub asked : (i : ℕ) → i < n → NeededOf table (getD ones i 0) (getD asks i 0)
+    pub few : n ≤ most-searched
+
+  -- p is placed: different committed transactions whose judged reads find their sources, and last has the last writer of each object
+  pub record Replayed (p last : List ℕ) : Type 0 where
     pub different : distinct p ≡ true
     pub members : all (committed log) p ≡ true
     pub right : (i : ℕ) → i < steps log → judged-other log i ≡ true → member (tx log i) p ≡ true → finds log (obj log i) (tx log i) 0 p ≡ src log i
-    pub left : (t : ℕ) → takes-part transactions free t ≡ (committed log t and fails (member t p))
     pub writers : (x : ℕ) → x < objects → getD last x 0 ≡ ran x 0 p
+
+  -- .. and of the n on the list those are marked that are left
+  pub record Placed (ones : List ℕ) (n : ℕ) (run : Run) : Type 0 where
+    pub so-far : Replayed (placed-of run) (run .last)
+    pub left : (i : ℕ) → i < n → marked (run .free) i ≡ fails (member (getD ones i 0) (placed-of run))
+    pub fills : run .at + count n (marked (run .free)) ≡ n
 
   -- what the search finds behind p: the first list with which p explains loosely, in the n entries of the array, or none
   pub data Searched (p : List ℕ) (n : ℕ) : Bool → List ℕ → Type 0 where

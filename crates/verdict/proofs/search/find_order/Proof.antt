@@ -1,6 +1,6 @@
 -- `find_order` meets its contract.
 use mathlib.Core.Path.{_≡_}
-use Prim.Native.Nat.{ℕ, _+_, _≤_}
+use Prim.Native.Nat.{ℕ, _≤_}
 use native.Mathlib.Omega.{arith}
 use borrow.Author.Needs.{needs}
 use borrow.Author.Tests.{not-true, not-false}
@@ -9,7 +9,7 @@ use Rattle.verdict.specs.Limits.{most-searched}
 use Rattle.verdict.proofs.Memberless.{holds-none}
 use Rattle.verdict.proofs.Versions.{committed-range}
 use Rattle.verdict.proofs.WellFormed.{well-formed}
-use Rattle.verdict.proofs.Searching.{few-enough, all-left, nothing-placed, order-found, none-found}
+use Rattle.verdict.proofs.Searching.{few-enough, nothing-placed, order-found, none-found}
 use Rattle.verdict.proofs.search.find_order.Statement.{statement}
 use Rattle.verdict.proofs.search.find_order.Tie as tie
 
@@ -49,11 +49,11 @@ place-requires : tie.Need-place-requires
 place-requires c κs =
     let a = asked c in
     let l = listed a in
-    let n : ℕ = l .list-committed .result .count in
     let made = need-known l in
-    let q = entry made .pre in
-    let z : 0 + n ≡ n = omega arith in
-    (q .0, q .1, made .need-table .ensures, q .4, rw z (l .list-committed .ensures), rw z (a .all-needed .ensures), rw z (few l), all-left _ (l .list-committed .ensures) (q .3), nothing-placed _ _ (q .3))
+    let q = entry made .pre in (
+      record { passed = q .0; clean = q .1; needs = made .need-table .ensures; written = q .4; list = l .list-committed .ensures; asked = a .all-needed .ensures; few = few l },
+      nothing-placed _ _ (few l),
+    )
 
 without-members-requires : tie.Need-without-members-requires
 without-members-requires c κs = search needs
@@ -73,8 +73,7 @@ returns-2 c =
     let p = e .before in
     let l = listed (asked (p .before)) in
     let n : ℕ = l .list-committed .result .count in
-    let z : 0 + n ≡ n = omega arith in
-    order-found _ n (p .place .result .order) _ (omega (arith, few l, room (c .before))) (rw (z, not-false (p .place .result .found) (e .if1 .left)) at (p .place .ensures)) (c .list-of .ensures)
+    order-found _ n (p .place .result .order) _ (omega (arith, few l, room (c .before))) (rw (not-false (p .place .result .found) (e .if1 .left)) at (p .place .ensures)) (c .list-of .ensures)
 
 pub find-order-spec : {M : Type 1} → statement M
 find-order-spec =
