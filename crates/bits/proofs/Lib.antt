@@ -2,3 +2,4 @@
 pub mod Marks
 pub mod Walks
 pub mod Putting
+pub mod Runs

@@ -3,16 +3,16 @@ use mathlib.Core.Path.{_≡_, refl, sym, ap, _∙_}
 use mathlib.Core.Bool.{Bool, true, false, not}
 use mathlib.Core.Logic.{_⊎_, inl, inr, ⊎-elim}
 use Prim.Native.Nat.{ℕ, zero, suc, _+_, _-_, _*_, _/_, _%_, _^_, _≤_, _<_, suc-le-suc, min, max}
-use native.Mathlib.Nat.{add-comm, one-mul, div-one, zero-div, div-eq-of-lt, pow-suc, lt-of-lt-of-le, lt-of-le-of-lt, le-of-suc-le-suc, not-suc-le-zero, zero-min, zero-max, min-le-left, max-le}
+use native.Mathlib.Nat.{add-comm, one-mul, div-one, zero-div, div-eq-of-lt, pow-suc, sub-zero, lt-of-lt-of-le, lt-of-le-of-lt, le-of-suc-le-suc, not-suc-le-zero, zero-min, zero-max, min-le-left, max-le}
 use native.Mathlib.Numerals.{one-add}
 use native.Mathlib.Omega.{arith}
 use lib.Arith.{digits-mod, lt-one}
-use lib.Pow.{pow-pos, pow-lt, pow-mono, shr-shr, shl-exact}
+use lib.Pow.{pow-pos, pow-lt, pow-mono, ones-lt, shr-shr, shl-exact}
 use lib.Dec.{eqb}
 use lib.Bits.{bitAnd, bitOr, and-step, or-step, and-shr, or-shr, and-mask, and-le-l, or-lt, or-disjoint, shifted-half, shifted-even}
 use lib.Count.{trailingZeros, under, trailing-le}
-use Rattle.words.specs.Tests.{_is_, _below_, _and_, _or_, fails, if_then_else_, some, lowest}
-use Rattle.words.proofs.Truth.{decide, not-both, to-true, to-false, or→, →or-left, →or-right, and-no-right, same-test, below→, not-below→, and→, →and, if-true, if-false, and-no-left, not-fails, some-same, is→, isnt→, →is, →isnt, →fails, →not-fails, →none, none→, lowest-at, lowest-none}
+use Rattle.words.specs.Tests.{_is_, _below_, _upto_, _and_, _or_, fails, if_then_else_, some, lowest}
+use Rattle.words.proofs.Truth.{decide, not-both, to-true, to-false, or→, →or-left, →or-right, and-no-right, same-test, below→, not-below→, →not-below, upto→, →upto, fails→, and→, →and, if-true, if-false, and-no-left, not-fails, some-same, is→, isnt→, →is, →isnt, →fails, →not-fails, →none, none→, lowest-at, lowest-none}
 use Rattle.bits.specs.Word.{marked, more, less}
 
 -- the lowest bit, and the others
@@ -33,7 +33,10 @@ pub no-mark-past : (k m x : ℕ) → m < 2 ^ k → k ≤ x → marked m x ≡ fa
 unfolding marked _is_
 no-mark-past k m x h l = ap (λ (n : ℕ). n % 2 is 1) (div-eq-of-lt (lt-of-lt-of-le h (pow-mono l)))
 
--- .. and so nothing is to be taken away there
+-- .. and so nothing is to be taken away there, and no mark is from there on
+pub none-from : (m x : ℕ) → m < 2 ^ 64 → 64 ≤ x → (y : ℕ) → marked 0 y ≡ (x upto y and marked m y)
+none-from m x h l y = no-mark y ∙ sym (to-false _ (λ (q : (x upto y and marked m y) ≡ true). let z : x ≤ y = upto→ (and→ q .0) in not-both (and→ q .1) (no-mark-past 64 m y h (omega arith))))
+
 pub less-past : (m x : ℕ) → m < 2 ^ 64 → 64 ≤ x → less m x ≡ m
 unfolding less
 less-past m x h l = if-false (m - 2 ^ x) m (no-mark-past 64 m x h l)
@@ -168,12 +171,6 @@ pub read-mark : (m x : ℕ) → eqb (bitAnd (m / 2 ^ x) 1) 1 ≡ marked m x
 unfolding marked _is_
 read-mark m x = ap (λ (n : ℕ). eqb n 1) (and-mask (m / 2 ^ x) 1)
 
-pub shares : (a b : ℕ) → a < 2 ^ 64 → not (eqb (bitAnd a b) 0) ≡ some 64 (λ x. marked a x and marked b x)
-unfolding _is_
-shares a b h =
-    not-fails (eqb (bitAnd a b) 0) ∙ some-mark 64 (bitAnd a b) (lt-of-le-of-lt (and-le-l a b) h)
-    ∙ some-same 64 (marked (bitAnd a b)) (λ x. marked a x and marked b x) (λ x l. mark-and a b x)
-
 -- a power within a word
 power-lt : (k x : ℕ) → x < k → 1 * 2 ^ x < 2 ^ k
 power-lt k x l = rw (one-mul (2 ^ x)) (pow-lt l)
@@ -257,6 +254,32 @@ module _ (m x : ℕ) (h : m < 2 ^ 64) (l : x < 64) where
 
   pub drops : bitAnd m ((2 ^ 64 - 1) - (1 * 2 ^ x) % 2 ^ 64) ≡ less m x
   drops = ap (λ (n : ℕ). bitAnd m ((2 ^ 64 - 1) - n)) shifted ∙ less-value 64 m x h l
+
+-- `(1 << x) - 1`: the numbers below x
+pub mark-below : (x y : ℕ) → marked (2 ^ x - 1) y ≡ (y below x)
+mark-below x y = go (decide (y below x))
+  where
+    go : ((y below x) ≡ true) ⊎ ((y below x) ≡ false) → marked (2 ^ x - 1) y ≡ (y below x)
+    go (inl q) = ap (λ (n : ℕ). marked n y) (sym (sub-zero (2 ^ x - 1))) ∙ mark-not x 0 y (pow-pos x) (below→ q) ∙ →fails (no-mark y) ∙ sym q
+    go (inr q) = no-mark-past x (2 ^ x - 1) y (ones-lt x) (not-below→ q) ∙ sym q
+
+-- `a & !((1 << x) - 1)`: those from x on
+pub mark-from : (m x : ℕ) → m < 2 ^ 64 → x < 64 → (y : ℕ) → marked (bitAnd m ((2 ^ 64 - 1) - ((1 * 2 ^ x) % 2 ^ 64 - 1))) y ≡ (x upto y and marked m y)
+mark-from m x h l y =
+    ap (λ (n : ℕ). marked (bitAnd m ((2 ^ 64 - 1) - (n - 1))) y) e
+    ∙ mark-without 64 m (2 ^ x - 1) y h (lt-of-lt-of-le (ones-lt x) (pow-mono {i = x} {j = 64} (omega arith)))
+    ∙ ap (λ (t : Bool). marked m y and fails t) (mark-below x y) ∙ swap
+  where
+    e : (1 * 2 ^ x) % 2 ^ 64 ≡ 2 ^ x
+    e = shl-exact 1 x 64 (omega arith) (omega arith) ∙ one-mul (2 ^ x)
+
+    swap : (marked m y and fails (y below x)) ≡ (x upto y and marked m y)
+    swap =
+        same-test (λ q. →and (→upto (not-below→ (fails→ (and→ q .1)))) (and→ q .0))
+        (λ q. →and (and→ q .1) (→fails (→not-below (upto→ (and→ q .0)))))
+
+pub power-above : (x : ℕ) → x < 64 → 1 ≤ (1 * 2 ^ x) % 2 ^ 64
+power-above x h = let e : (1 * 2 ^ x) % 2 ^ 64 ≡ 1 * 2 ^ x = shl-exact 1 x 64 (omega arith) (omega arith) in rw (e, one-mul (2 ^ x)) (pow-pos x)
 
 pub any-mark : (m : ℕ) → m < 2 ^ 64 → not (eqb m 0) ≡ some 64 (marked m)
 unfolding _is_

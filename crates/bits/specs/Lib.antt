@@ -1,2 +1,3 @@
--- Marks kept as the bits of one number.
+-- Marks kept as the bits of numbers.
 pub mod Word
+pub mod Run

@@ -4,7 +4,8 @@ mod table;
 pub use table::marked_above;
 pub use table::put_marked;
 ghost use mathlib.Core.Path.{_≡_};
-ghost use Rattle.words.specs.Tests.{_below_, _and_, if_then_else_, some, lowest};
+ghost use Prim.Native.Nat.{ℕ};
+ghost use Rattle.words.specs.Tests.{_below_, _upto_, _and_, _or_, fails, if_then_else_, some, lowest};
 ghost use Rattle.bits.specs.Word.{marked, more, less};
 
 // Whether x is marked.
@@ -37,11 +38,25 @@ pub fn without_mark(m: u64, x: usize) -> u64
     m & !(1 << x)
 }
 
-// Whether a number is marked in both.
-pub fn share(a: u64, b: u64) -> bool
-    ensures { λ r. ⌜ r ≡ some 64 (λ x. marked a x and marked b x) ⌝ }
+// What is marked in either.
+pub fn union(a: u64, other: u64) -> u64
+    ensures { λ r. ⌜ ((x : ℕ) → marked r x ≡ (marked a x or marked other x)) ⌝ }
 {
-    a & b != 0
+    a | other
+}
+
+// What is marked in both.
+pub fn common(a: u64, other: u64) -> u64
+    ensures { λ r. ⌜ ((x : ℕ) → marked r x ≡ (marked a x and marked other x)) ⌝ }
+{
+    a & other
+}
+
+// What is marked in a and not in the other.
+pub fn minus(a: u64, other: u64) -> u64
+    ensures { λ r. ⌜ ((x : ℕ) → marked r x ≡ (marked a x and fails (marked other x))) ⌝ }
+{
+    a & !other
 }
 
 // Whether any number is marked.
@@ -56,4 +71,14 @@ pub fn lowest_mark(m: u64) -> usize
     ensures { λ r. ⌜ r ≡ lowest 64 (marked m) ⌝ }
 {
     u64::trailing_zeros(m) as usize
+}
+
+// What is marked from x on.
+pub fn marks_from(m: u64, x: usize) -> u64
+    ensures { λ r. ⌜ ((y : ℕ) → marked r y ≡ (x upto y and marked m y)) ⌝ }
+{
+    if 64 <= x {
+        return 0;
+    }
+    m & !((1 << x) - 1)
 }

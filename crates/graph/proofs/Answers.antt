@@ -1,15 +1,16 @@
 -- What `sort` and `next` answer, from what was found and laid into zeros.
-use mathlib.Core.Path.{_≡_, _∙_}
-use mathlib.Core.Bool.{true, false}
+use mathlib.Core.Path.{_≡_, subst, fun-ext, _∙_}
+use mathlib.Core.Bool.{Bool, true, false}
 use mathlib.Core.List.{List, []}
 use mathlib.Core.Option.{Option, none, some as just}
-use Prim.Native.Nat.{ℕ, _≤_}
+use Prim.Native.Nat.{ℕ, _≤_, _*_}
 use native.Mathlib.Omega.{arith}
 use lib.ListN.{length}
 use Rattle.words.specs.Tests.{_below_, some}
 use Rattle.words.specs.Lists.{zeros}
-use Rattle.words.specs.First.{dictionary, First, later}
-use Rattle.graph.specs.Matrix.{Earliest, earliest, not-any, takes-part, matrix-order, is-some, later-members, Sorts, Follows}
+use Rattle.words.specs.First.{dictionary, shorter, First, later}
+use Rattle.graph.specs.Matrix.{Earliest, earliest, not-any, takes-part, joined, matrix-order, is-some, later-members, Sorts, Follows}
+use Rattle.graph.specs.Cycle.{is-cycle}
 use Rattle.graph.specs.Shows.{shows-order, shows-cycle}
 use Rattle.graph.specs.Inner.Laying.{laid, until, Places, Followed}
 use Rattle.graph.specs.Inner.Distances.{Cycled}
@@ -21,7 +22,7 @@ use Rattle.graph.proofs.Sized.{order-size, order-acyclic, most}
 use Rattle.graph.proofs.Laid.{laid-entries}
 use Rattle.graph.proofs.Turn.{later-long}
 
-module _ (m part : List ℕ) (size : length part ≡ 128) where
+module _ (m part : List ℕ) (size : length part ≡ 2) where
   pub order-short : (w : List ℕ) → matrix-order 128 m part w ≡ true → length w ≤ 128
   order-short w h = omega (arith, order-size 128 m part w (omega arith) h, most 128 m part)
 
@@ -52,5 +53,12 @@ module _ (m part : List ℕ) (size : length part ≡ 128) where
         counted = omega (arith, p .counted);
       }
 
-pub sort-cycle : (m part : List ℕ) (r : Shown) → r .shape ≡ Cycle → Cycled m part (zeros 128) (r .count) (r .list) → Sorts 128 m part r
-sort-cycle m part r s c = record { members = c .members; right = rw s (shows-cycle (c .first)); listed = c .lies ∙ laid-entries 128 (c .members) (c .room); counted = c .counted }
+-- no cycle goes through what was placed, so the first one of the rest is the first of all
+pub sort-cycle : (m part rest : List ℕ) (r : Shown) → ((c : List ℕ) → is-cycle (joined 128 m rest) c ≡ is-cycle (joined 128 m part) c) → r .shape ≡ Cycle → Cycled m rest (zeros 128) (r .count) (r .list) → Sorts 128 m part r
+sort-cycle m part rest r around s c =
+    record {
+      members = c .members;
+      right = rw s (shows-cycle (subst (λ (p : List ℕ → Bool). First shorter p (c .members)) (fun-ext around) (c .first)));
+      listed = c .lies ∙ laid-entries 128 (c .members) (c .room);
+      counted = c .counted;
+    }

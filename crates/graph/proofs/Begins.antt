@@ -2,7 +2,7 @@
 use mathlib.Core.Path.{_≡_, sym, subst}
 use mathlib.Core.Bool.{true, false}
 use mathlib.Core.List.{List}
-use Prim.Native.Nat.{ℕ, suc, _≤_, _<_}
+use Prim.Native.Nat.{ℕ, suc, _≤_, _<_, _*_}
 use lib.ListN.{length}
 use native.Mathlib.Omega.{arith}
 use Rattle.words.specs.Tests.{_upto_, _and_, count, lowest}
@@ -34,5 +34,5 @@ module _ (m left : List ℕ) (start v : ℕ) (is-lowest : v ≡ lowest 129 (λ t
   none-begins h t l = to-false _ (λ b. let z : v ≤ t = at-most t b l in let y : t < 129 = free→ b .bound in omega arith)
 
   -- without its mark one vertex less is left
-  pub lowest-less : length left ≡ 128 → v ≤ 128 → count 129 (takes-part 128 left) ≡ suc (count 129 (takes-part 128 (unmarked v left)))
+  pub lowest-less : length left ≡ 2 → v ≤ 128 → count 129 (takes-part 128 left) ≡ suc (count 129 (takes-part 128 (unmarked v left)))
   lowest-less size h = part-less 128 m left (omega arith) v (free→ (lowest→ h .begins) .is-node)

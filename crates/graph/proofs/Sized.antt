@@ -2,9 +2,9 @@
 use mathlib.Core.Path.{_≡_, sym, ap, _∙_}
 use mathlib.Core.Bool.{true}
 use mathlib.Core.List.{List, [], _∷_}
-use Prim.Native.Nat.{ℕ, suc, _≤_}
+use Prim.Native.Nat.{ℕ, suc, _≤_, _*_}
 use native.Mathlib.Omega.{arith}
-use lib.ListN.{length, length-set}
+use lib.ListN.{length}
 use Rattle.words.specs.Tests.{count}
 use Rattle.words.specs.First.{Never}
 use Rattle.graph.specs.Order.{is-order}
@@ -13,23 +13,23 @@ use Rattle.graph.specs.Matrix.{takes-part, joined, matrix-order}
 use Rattle.graph.specs.Inner.Peel.{unmarked}
 use Rattle.words.proofs.Truth.{and→, fails→, count-none, count-above}
 use Rattle.graph.proofs.Peel.{free→, order→, count-without}
-use Rattle.graph.proofs.Marks.{zero-out, part→, ends, parts-without, matrix-peel, matrix-none}
+use Rattle.graph.proofs.Marks.{size-unmarked, zero-out, part→, ends, parts-without, matrix-peel, matrix-none}
 use Rattle.graph.proofs.Exclude.{no-cycle}
 use Rattle.graph.proofs.Judge.{nodes-length, cycle-length}
 
 module _ (n : ℕ) (m : List ℕ) where
   -- one vertex less takes part where a mark is taken away
-  pub part-less : (part : List ℕ) → n ≤ length part → (v : ℕ) → takes-part n part v ≡ true → count (suc n) (takes-part n part) ≡ suc (count (suc n) (takes-part n (unmarked v part)))
+  pub part-less : (part : List ℕ) → n ≤ 64 * length part → (v : ℕ) → takes-part n part v ≡ true → count (suc n) (takes-part n part) ≡ suc (count (suc n) (takes-part n (unmarked v part)))
   part-less part long v h =
       let p = part→ n part v h in
       let z : v ≤ n = p .high in
       rw (parts-without n m part long v (p .low) (p .high)) (count-without (suc n) (takes-part n part) v (omega arith) h)
 
-  pub order-size : (part v : List ℕ) → n ≤ length part → matrix-order n m part v ≡ true → length v ≡ count (suc n) (takes-part n part)
+  pub order-size : (part v : List ℕ) → n ≤ 64 * length part → matrix-order n m part v ≡ true → length v ≡ count (suc n) (takes-part n part)
   order-size part [] long h = sym (count-none (suc n) (takes-part n part) (fails→ (sym (matrix-none n m part) ∙ h)))
   order-size part (a ∷ v) long h =
       let r = and→ (sym (matrix-peel n m part long a v) ∙ h) in
-      ap suc (order-size (unmarked a part) v (unfold unmarked in (simp length-set long)) (r .1)) ∙ sym (part-less part long a (free→ (r .0) .is-node))
+      ap suc (order-size (unmarked a part) v (rw (size-unmarked a part) long) (r .1)) ∙ sym (part-less part long a (free→ (r .0) .is-node))
 
   pub most : (part : List ℕ) → count (suc n) (takes-part n part) ≤ n
   most part = count-above n (takes-part n part) (zero-out n part)

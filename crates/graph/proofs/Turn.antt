@@ -3,7 +3,7 @@ use mathlib.Core.Path.{_≡_, refl, sym, ap, subst, _∙_}
 use mathlib.Core.Bool.{Bool, true, false, false≢true}
 use mathlib.Core.List.{List, [], _∷_}
 use mathlib.Core.Option.{Option, none, some as just}
-use Prim.Native.Nat.{ℕ, _+_, _≤_, _<_}
+use Prim.Native.Nat.{ℕ, _+_, _≤_, _<_, _*_}
 use native.Mathlib.Omega.{arith}
 use native.Mathlib.Numerals.{add-one}
 use lib.ListN.{length, getD, drop, set, length-drop, drop-of-length-le}
@@ -51,7 +51,7 @@ found-some {m} {left} {v} {i} {list} {n} {list′} f h = go (f .found) (f .right
     go (just u) (earliest g) c l = (u, g, c, l)
     go none g c l = absurd (omega arith)
 
-module _ (m left : List ℕ) (size : length left ≡ 128) where
+module _ (m left : List ℕ) (size : length left ≡ 2) where
   peeled : (a : ℕ) (w : List ℕ) → matrix-order 128 m left (a ∷ w) ≡ (may-begin m left a and matrix-order 128 m (unmarked a left) w)
   peeled = matrix-peel 128 m left (omega arith)
 
@@ -120,10 +120,10 @@ module _ (m left : List ℕ) (size : length left ≡ 128) where
               to-false _ (λ k. not-both (cycle-more _ _ (λ x y q. apart→ (joined 128 m left) (ap (λ (g : ℕ → ℕ → Bool). g x y) (sym e) ∙ q) .0) c k) (order-acyclic 128 m left (a ∷ w) ordered c))
 
           all : some 129 (takes-part 128 rest) ≡ false
-          all = to-false _ (λ q. let c = p .cycle q in not-both (c .1) (acyclic (c .0)))
+          all = to-false _ (λ q. let c = p .cycle q in not-both (sym (p .around (c .0)) ∙ c .1) (acyclic (c .0)))
 
 -- The same where the given list is read from place i on.
-module _ (m left : List ℕ) (size : length left ≡ 128) (given : List ℕ) (i : ℕ) (ordered : matrix-order 128 m left (drop i given) ≡ true) where
+module _ (m left : List ℕ) (size : length left ≡ 2) (given : List ℕ) (i : ℕ) (ordered : matrix-order 128 m left (drop i given) ≡ true) where
   pub at-end : length given ≤ i → (list : List ℕ) → Followed m left (drop i given) i list 0 list
   at-end h list = rw (drop-of-length-le given h) (turn-end m left size (rw (drop-of-length-le given h) at ordered) i list)
 

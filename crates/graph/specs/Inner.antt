@@ -2,3 +2,5 @@
 pub mod Peel
 pub mod Laying
 pub mod Distances
+pub mod Rows
+pub mod Waiting

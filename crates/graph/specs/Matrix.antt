@@ -1,11 +1,12 @@
--- The graph that a byte matrix and marks stand for, and what the public functions say of it. Vertices are 1..n.
+-- The graph that rows of marks stand for, and what the public functions say of it. Vertices are 1..n.
 use mathlib.Core.Path.{_≡_}
 use mathlib.Core.Bool.{Bool, true, false}
 use mathlib.Core.List.{List, []}
 use mathlib.Core.Option.{Option, none, some as just}
 use Prim.Native.Nat.{ℕ, suc, _+_, _-_, _*_}
-use lib.ListN.{length, getD}
-use Rattle.words.specs.Tests.{_is_, _upto_, _and_, fails}
+use lib.ListN.{length}
+use Rattle.words.specs.Tests.{_is_, _upto_, _and_, _or_, fails}
+use Rattle.bits.specs.Run.{bit}
 use Rattle.words.specs.Lists.{entries}
 use Rattle.words.specs.First.{dictionary, First, Never, later}
 use Rattle.graph.specs.Order.{is-order}
@@ -17,18 +18,31 @@ use Rattle.graph.specs.declared.Later.{Later}
 abbrev pub vertices : ℕ
 vertices = 128
 
--- v takes part: a number from 1 to n whose mark is not 0
+-- how many words of 64 marks the rows of all vertices have
+abbrev pub row-words : ℕ
+row-words = 256
+
+-- v takes part: a number from 1 to n that is marked; the mark of 1 comes first
 unfoldable pub takes-part : ℕ → List ℕ → ℕ → Bool
-takes-part n part v = 1 upto v and v upto n and fails (getD part (v - 1) 0 is 0)
+takes-part n part v = 1 upto v and v upto n and bit part (v - 1)
 
 module _ (n : ℕ) (m part : List ℕ) where
-  -- an edge leads from a to b: both take part, they differ, and the byte in row a and column b is not 0
+  -- an edge leads from a to b: both take part, they differ, and a is marked in the row of b
   unfoldable pub joined : ℕ → ℕ → Bool
-  joined a b = fails (a is b) and takes-part n part a and takes-part n part b and fails (getD m ((a - 1) * n + (b - 1)) 0 is 0)
+  joined a b = fails (a is b) and takes-part n part a and takes-part n part b and bit m ((b - 1) * n + (a - 1))
 
   -- an order of the vertices that take part, keeping every edge
   unfoldable pub matrix-order : List ℕ → Bool
   matrix-order w = is-order (suc n) (takes-part n part) joined w
+
+-- a is marked in the row of b
+unfoldable pub in-row : List ℕ → ℕ → ℕ → Bool
+in-row m b a = 1 upto b and b upto vertices and 1 upto a and a upto vertices and bit m ((b - 1) * vertices + (a - 1))
+
+-- what `join` does to rows: those of the set are marked in the row of b too
+pub record Joins (m set : List ℕ) (b : ℕ) (m′ : List ℕ) : Type 0 where
+  pub size : length m′ ≡ length m
+  pub each : length m ≡ row-words → (c a : ℕ) → in-row m′ c a ≡ (in-row m c a or (c is b and 1 upto b and b upto vertices and takes-part vertices set a))
 
 -- the dictionary-first of the lists that pass, or none where none does
 pub data Earliest (passes : List ℕ → Bool) : Option (List ℕ) → Type 0 where

@@ -1,19 +1,28 @@
-// Orders and cycles of a graph on the vertices 1..128. The byte at (a - 1) * 128 + (b - 1) of the matrix is not 0 where an edge leads
-// from a to b, and a vertex takes part where its mark is not 0. An edge of a vertex to itself, or of one that takes no part, counts for nothing.
+// Orders and cycles of a graph on the vertices 1..128. A set of vertices is two numbers of 64 marks, and the edges of a graph are a row for each
+// vertex: the set of those from which an edge leads to it. An edge of a vertex to itself, or of one that takes no part, counts for nothing.
 mod cycle;
 mod left;
 mod onward;
 mod order;
+mod rows;
+mod sets;
 
 pub use order::keeps;
+pub use rows::join;
+pub use rows::row;
+pub use sets::takes_part;
+pub use sets::union;
+pub use sets::with_vertex;
 ghost use mathlib.Core.Path.{_≡_};
 ghost use mathlib.Core.Bool.{true};
 ghost use Rattle.graph.specs.Matrix.{vertices, matrix-order, Sorts, Follows};
 
-// How many vertices a graph may have, and how many bytes the matrix of its edges has.
+// How many vertices a graph may have; how many numbers a set of them has, and how many the rows of all.
 pub const VERTICES: usize = 128;
 
-pub const MATRIX: usize = VERTICES * VERTICES;
+pub const WORDS: usize = 2;
+
+pub const ROWS: usize = VERTICES * WORDS;
 
 // What a list that is shown is: an order of all vertices that take part, or a cycle.
 pub enum Shape {
@@ -37,16 +46,16 @@ pub struct Later {
 }
 
 // The first order, or else the first shortest cycle.
-pub fn sort(m: &[u8; MATRIX], part: [u8; VERTICES]) -> Shown
+pub fn sort(m: &[u64; ROWS], part: [u64; WORDS]) -> Shown
     ensures { λ r. ⌜ Sorts vertices (now (m .entry)) part r ⌝ }
 {
     let mut list = [0u16; VERTICES];
     let p = order::lay_down(&mut list, m, part, 0);
     let left = p.left;
     let count = p.count;
-    if left::some_left(&left) {
+    if sets::any(left) {
         let mut ring = [0u16; VERTICES];
-        let members = cycle::cycle(&mut ring, m, &part);
+        let members = cycle::cycle(&mut ring, m, left);
         return Shown {
             shape: Shape::Cycle,
             list: ring,
@@ -61,7 +70,7 @@ pub fn sort(m: &[u8; MATRIX], part: [u8; VERTICES]) -> Shown
 }
 
 // The first order that comes later than the given one and keeps every edge.
-pub fn next(m: &[u8; MATRIX], part: [u8; VERTICES], given: &[u16]) -> Later
+pub fn next(m: &[u64; ROWS], part: [u64; WORDS], given: &[u16]) -> Later
     requires { ⌜ matrix-order vertices (now m) part (now given) ≡ true ⌝ }
     ensures { λ r. ⌜ Follows vertices (now (m .entry)) part (now (given .entry)) r ⌝ }
 {

@@ -9,17 +9,19 @@ ghost use Rattle.words.specs.First.{Never, later};
 ghost use Rattle.graph.specs.Matrix.{vertices, takes-part, matrix-order};
 ghost use Rattle.graph.specs.Inner.Peel.{unmarked};
 ghost use Rattle.graph.specs.Inner.Laying.{Followed};
-use super::MATRIX;
+use super::ROWS;
 use super::VERTICES;
+use super::WORDS;
 use super::left::lowest_beginning;
 use super::order::lay_down;
+use super::sets::dropped;
 
 // Lays down, from place i on, the lowest vertex above a that may come first, and then the first order of the others. How many entries then
 // stand, or 0 where there is no such vertex.
 fn higher(
     list: &mut [u16; VERTICES],
-    m: &[u8; MATRIX],
-    left: [u8; VERTICES],
+    m: &[u64; ROWS],
+    left: [u64; WORDS],
     i: usize,
     a: usize,
 ) -> usize
@@ -28,14 +30,12 @@ fn higher(
         → Never (later (matrix-order vertices (now (m .entry)) (unmarked a left)) w)
         → Followed (now (m .entry)) left (a ∷ w) i (now (list .entry)) r (now (list .exit))) ⌝ }
 {
-    let b = lowest_beginning(m, &left, a + 1);
+    let b = lowest_beginning(m, left, a + 1);
     if VERTICES < b {
         return 0;
     }
-    let mut rest = left;
-    rest[b - 1] = 0;
     list[i] = b as u16;
-    let p = lay_down(list, m, rest, i + 1);
+    let p = lay_down(list, m, dropped(left, b), i + 1);
     p.count
 }
 
@@ -43,8 +43,8 @@ fn higher(
 // stand, or 0 where no order is later.
 pub(crate) fn follow(
     list: &mut [u16; VERTICES],
-    m: &[u8; MATRIX],
-    left: [u8; VERTICES],
+    m: &[u64; ROWS],
+    left: [u64; WORDS],
     given: &[u16],
     i: usize,
 ) -> usize
@@ -56,9 +56,7 @@ pub(crate) fn follow(
         return 0;
     }
     let a = given[i] as usize;
-    let mut behind = left;
-    behind[a - 1] = 0;
-    let n = follow(list, m, behind, given, i + 1);
+    let n = follow(list, m, dropped(left, a), given, i + 1);
     if 0 < n {
         list[i] = a as u16;
         return n;

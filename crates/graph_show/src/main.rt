@@ -3,9 +3,10 @@
 mod make;
 
 use graph::Later;
-use graph::MATRIX;
+use graph::ROWS;
 use graph::Shape;
 use graph::VERTICES;
+use graph::WORDS;
 use libc::STDOUT_FILENO;
 
 // Writes the graph's name.
@@ -43,7 +44,7 @@ fn list(w: &[u16; VERTICES], n: usize) {
 }
 
 // Writes the next order after the given one, and answers it.
-fn after(m: &[u8; MATRIX], part: [u8; VERTICES], given: &[u16]) -> Later {
+fn after(m: &[u64; ROWS], part: [u64; WORDS], given: &[u16]) -> Later {
     if !graph::keeps(m, part, given) {
         io::write_all(STDOUT_FILENO, b"not an order\n");
         return Later {
@@ -66,7 +67,7 @@ fn after(m: &[u8; MATRIX], part: [u8; VERTICES], given: &[u16]) -> Later {
 }
 
 // The same after the first n entries of given.
-fn later(m: &[u8; MATRIX], part: [u8; VERTICES], given: [u16; VERTICES], n: usize) -> Later {
+fn later(m: &[u64; ROWS], part: [u64; WORDS], given: [u16; VERTICES], n: usize) -> Later {
     if VERTICES < n {
         return Later {
             found: false,
@@ -78,7 +79,7 @@ fn later(m: &[u8; MATRIX], part: [u8; VERTICES], given: [u16; VERTICES], n: usiz
 }
 
 // Writes up to four later orders.
-fn nexts(m: &[u8; MATRIX], part: [u8; VERTICES], first: [u16; VERTICES], n: usize) {
+fn nexts(m: &[u64; ROWS], part: [u64; WORDS], first: [u16; VERTICES], n: usize) {
     let mut w = first;
     let mut k = n;
     let mut i: usize = 0;
@@ -93,13 +94,14 @@ fn nexts(m: &[u8; MATRIX], part: [u8; VERTICES], first: [u16; VERTICES], n: usiz
 }
 
 // Writes the lines of one graph.
-fn show(m: &mut [u8; MATRIX], number: u64) {
+fn show(number: u64) {
     let marks = make::parts(number);
     let part = marks.part;
     let state = marks.state;
-    make::edges(m, number, state);
+    let mut m = [0u64; ROWS];
+    make::edges(&mut m, number, state);
     name(number);
-    let shown = graph::sort(m, part);
+    let shown = graph::sort(&m, part);
     let shape = shown.shape;
     let members = shown.list;
     let count = shown.count;
@@ -107,7 +109,7 @@ fn show(m: &mut [u8; MATRIX], number: u64) {
         Shape::Order => {
             io::write_all(STDOUT_FILENO, b" order");
             list(&members, count);
-            nexts(m, part, members, count);
+            nexts(&m, part, members, count);
         }
         Shape::Cycle => {
             io::write_all(STDOUT_FILENO, b" cycle");
@@ -118,10 +120,9 @@ fn show(m: &mut [u8; MATRIX], number: u64) {
 
 // Shows the graphs one after another.
 fn main() {
-    let mut m = [0u8; MATRIX];
     let mut number = 0;
     while number < 65 {
-        show(&mut m, number);
+        show(number);
         number += 1;
     }
 }

@@ -1,11 +1,11 @@
 // The graphs that are shown: numbers 0 to 4 by a rule for their edges, and higher numbers drawn.
 ghost use Prim.Native.Nat.{_≤_, _<_};
-use graph::MATRIX;
 use graph::VERTICES;
+use graph::WORDS;
 
-// Marks, and the state that the next draw starts from.
+// A set of vertices, and the state that the next draw starts from.
 pub struct Marks {
-    pub part: [u8; VERTICES],
+    pub part: [u64; WORDS],
     pub state: u64,
 }
 
@@ -49,54 +49,73 @@ fn ruled(number: u64, a: usize, b: usize) -> bool
     }
 }
 
-// The byte for an edge from a to b.
-fn byte(number: u64, state: u64, a: usize, b: usize) -> u8
+// Whether an edge leads from a to b.
+fn edge(number: u64, state: u64, a: usize, b: usize) -> bool
     requires { ⌜ (1 ≤ a) × (1 ≤ b) ⌝ }
 {
     if number < 5 {
-        return ruled(number, a, b) as u8;
+        return ruled(number, a, b);
     }
-    hit(state, 5 + (number - 4) % 9) as u8
+    hit(state, 5 + (number - 4) % 9)
 }
 
-// Which vertices take part: all, or in a drawn graph each by a draw.
+// Whether a vertex takes part: each in a graph made by a rule, and in a drawn one by a draw.
+fn stands(number: u64, state: u64) -> bool {
+    if number < 5 {
+        return true;
+    }
+    hit(state, 12)
+}
+
+// Which vertices take part.
 pub(crate) fn parts(number: u64) -> Marks {
-    let mut part = [1u8; VERTICES];
+    let mut part = [0u64; WORDS];
     let mut state = number;
     if 4 < number {
         state = number - 4;
     }
-    let mut v = 0;
-    while v < VERTICES {
+    let mut v = 1;
+    while v <= VERTICES {
         state = draw(state);
-        if 4 < number {
-            part[v] = hit(state, 12) as u8;
+        if stands(number, state) {
+            let more = graph::with_vertex(part, v);
+            part = more;
         }
         v += 1;
     }
     Marks { part, state }
 }
 
-// Writes row a of the matrix, and answers the state after it.
-fn row(m: &mut [u8; MATRIX], number: u64, start: u64, a: usize) -> u64
-    requires { ⌜ (1 ≤ a) × (a ≤ 128) ⌝ }
+// The set of a where an edge leads from a to b, and else nobody.
+fn source(number: u64, state: u64, a: usize, b: usize) -> [u64; WORDS]
+    requires { ⌜ (1 ≤ a) × (1 ≤ b) ⌝ }
+{
+    if edge(number, state, a, b) {
+        return graph::with_vertex([0u64; WORDS], a);
+    }
+    [0u64; WORDS]
+}
+
+// Draws the edges from a, and answers the state after it.
+fn edges_from(m: &mut [u64; graph::ROWS], number: u64, start: u64, a: usize) -> u64
+    requires { ⌜ 1 ≤ a ⌝ }
 {
     let mut state = start;
     let mut b = 1;
     while b <= VERTICES {
         state = draw(state);
-        m[(a - 1) * VERTICES + (b - 1)] = byte(number, state, a, b);
+        graph::join(m, source(number, state, a, b), b);
         b += 1;
     }
     state
 }
 
-// Writes the matrix.
-pub(crate) fn edges(m: &mut [u8; MATRIX], number: u64, start: u64) {
+// Draws the edges in rows that have none.
+pub(crate) fn edges(m: &mut [u64; graph::ROWS], number: u64, start: u64) {
     let mut state = start;
     let mut a = 1;
     while a <= VERTICES {
-        state = row(m, number, state, a);
+        state = edges_from(m, number, state, a);
         a += 1;
     }
 }

@@ -21,7 +21,6 @@ pub mod Clashing
 pub mod Loosely
 pub mod Placements
 pub mod Noting
-pub mod Latest
 pub mod Matrices
 pub mod Versions
 pub mod Dependencies

@@ -30,13 +30,6 @@ module _ {n : ℕ} (w : ℕ → ℕ → Bool) (i : ℕ) {marks : List ℕ} (m : 
   pub mark-skip : ((d : ℕ) → w d i ≡ false) → Marked n (λ d. some (i + 1) (w d)) marks
   mark-skip f = record { mark = λ d k. m .mark d k ∙ sym (some-skip i (w d) (f d)) }
 
--- what a mark says
-pub marked-yes : {n : ℕ} {p : ℕ → Bool} {marks : List ℕ} → Marked n p marks → (c : ℕ) → c < n → (getD marks c 0 ≡ 0 → ⊥) → p c ≡ true
-marked-yes m c h k = sym (m .mark c h) ∙ →fails (→isnt k)
-
-pub marked-no : {n : ℕ} {p : ℕ → Bool} {marks : List ℕ} → Marked n p marks → (c : ℕ) → c < n → getD marks c 0 ≡ 0 → p c ≡ false
-marked-no m c h k = sym (m .mark c h) ∙ →not-fails (→is k)
-
 -- a table filled from its first entry on: one entry more
 pub table-more : (f : ℕ → ℕ) (table : List ℕ) (t v : ℕ) → t < length table → ((u : ℕ) → u < t → getD table u 0 ≡ f u) → v ≡ f t
     → (u : ℕ) → u < t + 1 → getD (set table t v) u 0 ≡ f u

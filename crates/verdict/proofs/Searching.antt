@@ -26,10 +26,12 @@ use Rattle.verdict.specs.Replay.{explains-loosely}
 use Rattle.verdict.specs.Exact.{Exact, exact, exact-none}
 use Rattle.verdict.specs.Inner.Placing.{ran, CommittedList, Placed, Searched, found, missed}
 use Rattle.verdict.specs.declared.answers.Answer.the-variants.{Order}
+use Rattle.verdict.specs.declared.answers.Witnessed.{Witnessed}
 use Rattle.verdict.proofs.Refused.{when-yes, when-no}
 use Rattle.verdict.proofs.Cleanly.{clean-cleanness}
 use Rattle.verdict.proofs.WellFormed.{refused≢passed, when→, well-formed}
 use Rattle.verdict.proofs.Counted.{committed-fit}
+use Rattle.verdict.proofs.Loosely.{all-placed}
 
 -- no more are left than the search takes: at first, all that committed
 module _ (log : List ℕ) {ones : List ℕ} {n : ℕ} (list : CommittedList log ones n) where
@@ -54,6 +56,17 @@ nothing-placed log ones {n} few =
   where
     every-place : (i : ℕ) → i < 8 → marked 255 i ≡ true
     every-place i h = mark-not 8 0 i (pow-pos 8) h ∙ →fails (no-mark i)
+
+-- nobody committed: the empty order is the only one
+pub nobody-placed : {log ones : List ℕ} → log-refusal log ≡ Passed → is-clean log ≡ true → CommittedList log ones 0 → {r : Witnessed} → (r .answer ≡ Order 0) × (r .list ≡ zeros 128) → Holds (Exact transactions log) r
+unfolding said members entries zeros dictionary
+nobody-placed {log} {ones} well clean list e =
+    record {
+      outcome = order [];
+      right = exact (record { one = all-placed log (well-formed log well) [] _ (nothing-placed log ones {n = 0} (omega arith) .so-far) clean (λ t _ c. let i = list .every-one t c in absurd (omega (arith, i .1))); none-earlier = λ v h. refl });
+      says = e .0;
+      listed = e .1;
+    }
 
 -- what is found is the answer
 pub order-found : (log : List ℕ) (n : ℕ) (array list : List ℕ) → n ≤ length array → Searched log [] n true array → list ≡ entries transactions (take n array)

@@ -154,16 +154,9 @@ module _ (log : List ℕ) (j t p : ℕ) {first last : List ℕ} (b : FirstSteps 
   unfolding partner overlap
   long-before h = and-no-right _ (and-no-left _ (→not-below (rw (commit-at log p p-in c, begin-at log t t-in b) at h)))
 
-  pub long-after : getD last t 0 ≤ getD first p 0 → partner log j t p ≡ false
-  unfolding partner overlap
-  long-after h = and-no-right _ (and-no-right _ (→not-below (rw (commit-at log t t-in c, begin-at log p p-in b) at h)))
-
-  pub overlapping : j ≤ steps log → getD last p 0 < j → getD first t 0 < getD last p 0 → getD first p 0 < getD last t 0 → partner log j t p ≡ true
-  unfolding partner overlap committed commit-step
-  overlapping n h k l =
-      let e : getD last p 0 ≡ lowest (steps log) (commits log p) = commit-at log p p-in c in
-      →and (→and (lowest-passes _ (omega arith)) (→below (rw (commit-at log p p-in c) at h)))
-      (→and (→below (rw (commit-at log p p-in c, begin-at log t t-in b) at k)) (→below (rw (commit-at log t t-in c, begin-at log p p-in b) at l)))
+  pub overlapping : getD last p 0 < j → getD first t 0 < getD last p 0 → committed log p ≡ true → begin-step log p < commit-step log t → partner log j t p ≡ true
+  unfolding partner overlap snapshot-step
+  overlapping h k q l = →and (→and q (→below (rw (commit-at log p p-in c) at h))) (→and (→below (rw (commit-at log p p-in c, begin-at log t t-in b) at k)) (→below l))
 
 -- THE VERDICT
 module _ (log : List ℕ) where
@@ -202,3 +195,8 @@ module _ (log : List ℕ) where
     pub all-right : k ≤ j → steps log ≤ k → snapshot-verdict transactions log ≡ Yes
     unfolding snapshot-verdict
     all-right h n = if-false _ _ (→none _ (λ (i : ℕ) (l : i < steps log). none-yet i (omega arith) (omega arith)))
+
+-- a log without steps has nothing wrong
+pub none-wrong : (log : List ℕ) → steps log ≡ 0 → snapshot-verdict transactions log ≡ Yes
+unfolding snapshot-verdict some
+none-wrong log e = if-false _ _ (ap (λ (n : ℕ). some n (wrong-step transactions log)) e)

@@ -149,11 +149,14 @@ module _ (log : List ℕ) (well : log-refusal log ≡ Passed) where
       let o = when→ 11 t _ (tried→ _ (else-try→ (else-try→ (else-try→ well .1) .1) .1) t (omega arith)) in
       to-true _ (λ n. not-both (→and g (→fails n)) o)
 
-  -- a step that does not begin is one of a transaction that has begun
+  -- a step that does not begin is one of a transaction that has begun before it
+  pub begun-before : (i : ℕ) → i < steps log → (kind log i ≡ 1 → ⊥) → begun log i (tx log i) ≡ true
+  begun-before i h n = to-true _ (λ q. not-both (→and (→fails (→isnt n)) (→or-left _ (→fails q))) (test-8 i h))
+
   pub has-begun : (i : ℕ) → i < steps log → (kind log i ≡ 1 → ⊥) → begun log (steps log) (tx log i) ≡ true
   unfolding begun
   has-begun i h n =
-      let r = some→ (to-true (begun log i (tx log i)) (λ q. not-both (→and (→fails (→isnt n)) (→or-left _ (→fails q))) (test-8 i h))) in
+      let r = some→ (begun-before i h n) in
       →some _ (r .0) (omega (arith, r .1)) (r .2)
 
 -- What the theorems need of a log, with transactions at most `most`.

@@ -28,7 +28,7 @@ ghost use Rattle.verdict.specs.declared.answers.Checked.the-variants.{Pa
 fn is_faulty(
     log: &[u16],
     i: usize,
-    part: &[u8; Transaction::COUNT],
+    part: &[u64; graph::WORDS],
     later: &[u64; Transaction::TABLE],
 ) -> bool
     requires { ⌜ (log-refusal (now log) ≡ Passed) × (4 * i + 4 ≤ length (now log)) × Committed (now log) (now part)
@@ -58,7 +58,7 @@ fn is_faulty(
 
 // The lowest faulty step, or the number of steps where there is none, by who committed. It is the last one found on the way from the last
 // step to the first, where marks say what each transaction writes later.
-fn first_fault(log: &[u16], part: &[u8; Transaction::COUNT]) -> usize
+fn first_fault(log: &[u16], part: &[u64; graph::WORDS]) -> usize
     requires { ⌜ (log-refusal (now log) ≡ Passed) × Committed (now log) (now part) ⌝ }
     ensures { λ r. ⌜ r ≡ lowest (steps (now (log .entry))) (faulty-read (now (log .entry))) ⌝ }
 {
@@ -79,7 +79,7 @@ fn first_fault(log: &[u16], part: &[u8; Transaction::COUNT]) -> usize
 }
 
 // The clean verdict of a well-formed log, by who committed.
-pub(crate) fn judge_clean(log: &[u16], part: &[u8; Transaction::COUNT]) -> Cleanness
+pub(crate) fn judge_clean(log: &[u16], part: &[u64; graph::WORDS]) -> Cleanness
     requires { ⌜ (log-refusal (now log) ≡ Passed) × Committed (now log) (now part) ⌝ }
     ensures { λ r. ⌜ r ≡ cleanness (now (log .entry)) ⌝ }
 {

@@ -3,88 +3,82 @@ use crate::answers::Checked;
 use crate::answers::WitnessAnswer;
 use crate::answers::Witnessed;
 use crate::edges::committed_ones;
-use crate::edges::join;
 use crate::edges::show;
 use crate::edges::takes_part;
 use crate::leaving::leave;
-use crate::limits::Transaction;
+use crate::limits::Object;
 use crate::refusal::admit_witness;
 use crate::step::Step;
 use crate::step::step_at;
+use crate::walk::index;
 ghost use mathlib.Core.Path.{_≡_};
-ghost use Prim.Native.Nat.{suc, _≤_, _+_, _*_};
-ghost use lib.ListN.{length};
-ghost use Rattle.verdict.specs.Limits.{transactions};
+ghost use Prim.Native.Nat.{ℕ, _<_};
+ghost use Rattle.graph.specs.Matrix.{takes-part};
+ghost use Rattle.verdict.specs.Limits.{transactions, objects};
 ghost use Rattle.verdict.specs.Refusal.{log-refusal};
 ghost use Rattle.verdict.specs.Judgement.{Holds};
 ghost use Rattle.verdict.specs.Conflict.{conflict-edge, Conflict};
 ghost use Rattle.verdict.specs.Call.{ConflictCall};
 ghost use Rattle.verdict.specs.Inner.Marks.{Committed};
 ghost use Rattle.verdict.specs.Inner.Edges.{no-edge, Drawn};
-ghost use Rattle.verdict.specs.Inner.ConflictEdges.{meet-somehow, conflicts-until};
+ghost use Rattle.verdict.specs.Inner.ConflictEdges.{touched-row, earlier-touch};
 ghost use Rattle.verdict.specs.declared.answers.Checked.the-variants.{Passed};
 
-// Whether steps i and j touch one object, at least one writing.
-fn meets(log: &[u16], i: usize, j: usize) -> bool
-    requires { ⌜ (4 * i + 4 ≤ length (now log)) × (4 * j + 4 ≤ length (now log)) ⌝ }
-    ensures { λ r. ⌜ r ≡ meet-somehow (now (log .entry)) i j ⌝ }
+// Which row has those that touch the object in this way: the readers of an object come first, the writers behind them. No row is for other steps.
+fn touched_row(kind: u16, x: u16) -> usize
+    requires { ⌜ x < objects ⌝ }
+    ensures { λ r. ⌜ r ≡ touched-row kind x ⌝ }
 {
-    let earlier = step_at(log, i);
-    let later = step_at(log, j);
-    if earlier.obj != later.obj {
-        return false;
+    if kind == Step::READ {
+        return index(x) + 1;
     }
-    if earlier.kind == Step::WRITE {
-        return later.kind == Step::READ || later.kind == Step::WRITE;
+    if kind == Step::WRITE {
+        return index(x) + Object::TABLE + 1;
     }
-    if earlier.kind != Step::READ {
-        return false;
-    }
-    later.kind == Step::WRITE
+    0
 }
 
-// The edges that end at step j.
-fn mark_step(log: &[u16], matrix: &mut [u8], part: &[u8; Transaction::COUNT], j: usize)
-    requires { ⌜ (log-refusal (now log) ≡ Passed) × (4 * j + 4 ≤ length (now log)) × Committed (now log) (now part) × Drawn (conflicts-until (now log) j) (now matrix) ⌝ }
-    ensures { λ _. ⌜ Drawn (conflicts-until (now (log .entry)) (suc j)) (now (matrix .exit)) ⌝ }
+// Those whose earlier steps meet a step of this kind: the writers of the object, and for a write its readers too.
+fn earlier(touched: &[u64; graph::ROWS], kind: u16, x: u16) -> [u64; graph::WORDS]
+    requires { ⌜ x < objects ⌝ }
+    ensures { λ r. ⌜ ((a : ℕ) → takes-part transactions r a ≡ earlier-touch (now (touched .entry)) kind x a) ⌝ }
 {
-    let later = step_at(log, j);
-    let t = later.tx;
-    if !takes_part(part, t) {
-        return;
+    let writers = graph::row(touched, touched_row(Step::WRITE, x));
+    if kind == Step::READ {
+        return writers;
     }
-    let mut i = 0;
-    while i < j {
-        let earlier = step_at(log, i);
-        let s = earlier.tx;
-        if takes_part(part, s) {
-            if meets(log, i, j) {
-                join(matrix, s, t);
-            }
-        }
-        i += 1;
+    if kind == Step::WRITE {
+        return graph::union(writers, graph::row(touched, touched_row(Step::READ, x)));
     }
+    [0u64; graph::WORDS]
 }
 
-// Draws the edges of the conflict graph in a matrix that has none.
-pub(crate) fn draw(log: &[u16], matrix: &mut [u8], part: &[u8; Transaction::COUNT])
+// Draws the edges of the conflict graph in rows that have none: each step of a committed transaction ends an edge from those whose earlier steps it meets.
+pub(crate) fn draw(log: &[u16], matrix: &mut [u64; graph::ROWS], part: &[u64; graph::WORDS])
     requires { ⌜ (log-refusal (now log) ≡ Passed) × Committed (now log) (now part) × Drawn no-edge (now matrix) ⌝ }
     ensures { λ _. ⌜ Drawn (conflict-edge (now (log .entry))) (now (matrix .exit)) ⌝ }
 {
     let n = log.len() / 4;
+    let mut touched = [0u64; graph::ROWS];
     let mut j = 0;
     while j < n {
-        mark_step(log, matrix, part, j);
+        let step = step_at(log, j);
+        if takes_part(part, step.tx) {
+            let before = earlier(&touched, step.kind, step.obj);
+            graph::join(matrix, before, index(step.tx));
+            let one = graph::with_vertex([0u64; graph::WORDS], index(step.tx));
+            graph::join(&mut touched, one, touched_row(step.kind, step.obj));
+        }
         j += 1;
     }
 }
 
 // The conflict verdict of a well-formed log, by who committed.
-pub(crate) fn judge_conflict(log: &[u16], part: [u8; Transaction::COUNT]) -> Witnessed
+pub(crate) fn judge_conflict(log: &[u16], part: [u64; graph::WORDS]) -> Witnessed
     requires { ⌜ (log-refusal (now log) ≡ Passed) × Committed (now log) part ⌝ }
     ensures { λ r. ⌜ Holds (Conflict transactions (now (log .entry))) r ⌝ }
 {
-    let mut matrix = [0u8; graph::MATRIX];
+    let mut matrix = [0u64; graph::ROWS];
     draw(log, &mut matrix, &part);
     show(&matrix, part)
 }

@@ -33,7 +33,7 @@ ghost use Rattle.verdict.specs.declared.answers.Checked.the-variants.{Pa
 fn judge_search(
     log: &[u16],
     clean: Cleanness,
-    part: [u8; Transaction::COUNT],
+    part: [u64; graph::WORDS],
     writes: &[u64; Transaction::TABLE],
 ) -> Witnessed
     requires { ⌜ (log-refusal (now log) ≡ Passed) × (clean ≡ cleanness (now log)) × (committed-count (now log) ≤ most-searched) × Committed (now log) part × WriteTable (now log) (now writes) ⌝ }
@@ -60,7 +60,7 @@ fn admit_search(log: &[u16]) -> Checked
 pub(crate) fn judge_exact(
     log: &[u16],
     clean: Cleanness,
-    part: [u8; Transaction::COUNT],
+    part: [u64; graph::WORDS],
     writes: &[u64; Transaction::TABLE],
 ) -> ExactWitnessed
     requires { ⌜ (log-refusal (now log) ≡ Passed) × (clean ≡ cleanness (now log)) × Committed (now log) part × WriteTable (now log) (now writes) ⌝ }

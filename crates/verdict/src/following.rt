@@ -81,7 +81,7 @@ fn not_listed() -> Following
 }
 
 // The next order that graph finds, as an answer.
-fn bring(matrix: &[u8; graph::MATRIX], part: [u8; Transaction::COUNT], order: &[u16]) -> Witnessed
+fn bring(matrix: &[u64; graph::ROWS], part: [u64; graph::WORDS], order: &[u16]) -> Witnessed
     requires { ⌜ matrix-order transactions (now matrix) part (now order) ≡ true ⌝ }
     ensures { λ r. ⌜ Brings (now (matrix .entry)) part (now (order .entry)) r ⌝ }
 {
@@ -104,8 +104,8 @@ fn bring(matrix: &[u8; graph::MATRIX], part: [u8; Transaction::COUNT], order: &[
 // The next order in the graph of a clean log, or 14 where the one handed in is not on the list.
 fn follow(
     log: &[u16],
-    matrix: &[u8; graph::MATRIX],
-    part: [u8; Transaction::COUNT],
+    matrix: &[u64; graph::ROWS],
+    part: [u64; graph::WORDS],
     order: &[u16],
 ) -> Following
     requires { ⌜ (log-refusal (now log) ≡ Passed) × (is-clean (now log) ≡ true) × Committed (now log) part × Drawn (version-edge (now log)) (now matrix) ⌝ }
@@ -127,14 +127,14 @@ fn follow(
 // The next order in the version graph of a clean log, or 14, by who committed and the writers of the next versions.
 fn in_version_graph(
     log: &[u16],
-    part: [u8; Transaction::COUNT],
+    part: [u64; graph::WORDS],
     next: &[u8; Transaction::PAIRS],
     order: &[u16],
 ) -> Following
     requires { ⌜ (log-refusal (now log) ≡ Passed) × (is-clean (now log) ≡ true) × Committed (now log) part × NextWriters (now log) (now next) ⌝ }
     ensures { λ r. ⌜ Comes (now (log .entry)) (now (order .entry)) r ⌝ }
 {
-    let mut matrix = [0u8; graph::MATRIX];
+    let mut matrix = [0u64; graph::ROWS];
     draw(log, &mut matrix, &part, next);
     follow(log, &matrix, part, order)
 }

@@ -26,7 +26,7 @@ ghost use Rattle.verdict.specs.Inner.WriteTable.{WriteTable};
 ghost use Rattle.verdict.specs.declared.answers.Checked.the-variants.{Passed};
 
 // Whether step i is a judged read from another, by who committed.
-fn judged_other(log: &[u16], part: &[u8; Transaction::COUNT], i: usize) -> bool
+fn judged_other(log: &[u16], part: &[u64; graph::WORDS], i: usize) -> bool
     requires { ⌜ (log-refusal (now log) ≡ Passed) × (4 * i + 4 ≤ length (now log)) × Committed (now log) (now part) ⌝ }
     ensures { λ r. ⌜ r ≡ judged-other (now (log .entry)) i ⌝ }
 {
@@ -64,7 +64,7 @@ struct Roster {
 }
 
 // The list of the committed transactions, by who committed.
-fn list_committed(log: &[u16], part: &[u8; Transaction::COUNT]) -> Roster
+fn list_committed(log: &[u16], part: &[u64; graph::WORDS]) -> Roster
     requires { ⌜ (log-refusal (now log) ≡ Passed) × Committed (now log) (now part) × (committed-count (now log) ≤ most-searched) ⌝ }
     ensures { λ r. ⌜ CommittedList (now (log .entry)) (r .list) (r .count) ⌝ }
 {
@@ -82,7 +82,7 @@ fn list_committed(log: &[u16], part: &[u8; Transaction::COUNT]) -> Roster
 }
 
 // What each committed transaction needs to find of each object.
-fn need_table(log: &[u16], part: &[u8; Transaction::COUNT]) -> [u16; Transaction::PAIRS]
+fn need_table(log: &[u16], part: &[u64; graph::WORDS]) -> [u16; Transaction::PAIRS]
     requires { ⌜ (log-refusal (now log) ≡ Passed) × Committed (now log) (now part) ⌝ }
     ensures { λ r. ⌜ Needs (now (log .entry)) r ⌝ }
 {
@@ -267,19 +267,23 @@ fn list_of(order: [u16; Transaction::SEARCHED], n: usize) -> [u16; Transaction::
     list
 }
 
-// The first order that explains a clean, well-formed log loosely, or that there is none, by who committed and what each transaction writes.
+// The first order that explains a clean, well-formed log loosely, or that there is none, by who committed and what each transaction writes. Where
+// nobody committed it is the empty one.
 pub(crate) fn find_order(
     log: &[u16],
-    part: [u8; Transaction::COUNT],
+    part: [u64; graph::WORDS],
     writes: &[u64; Transaction::TABLE],
 ) -> Witnessed
     requires { ⌜ (log-refusal (now log) ≡ Passed) × (is-clean (now log) ≡ true) × (committed-count (now log) ≤ most-searched) × Committed (now log) part × WriteTable (now log) (now writes) ⌝ }
     ensures { λ r. ⌜ Holds (Exact transactions (now (log .entry))) r ⌝ }
 {
-    let need = need_table(log, &part);
     let all = list_committed(log, &part);
     let ones = all.list;
     let left = all.count;
+    if left == 0 {
+        return without_members(Answer::Order(0));
+    }
+    let need = need_table(log, &part);
     let asks = all_needed(&need, &ones, left);
     let last = [0u16; Object::TABLE];
     let placed = [0u16; Transaction::SEARCHED];

@@ -18,14 +18,14 @@ use crate::walk::object_marked;
 ghost use mathlib.Core.Path.{_≡_};
 ghost use Prim.Native.Nat.{_≤_, _<_, _+_, _*_};
 ghost use lib.ListN.{length, getD};
-ghost use Rattle.words.specs.Tests.{_and_, lowest};
+ghost use Rattle.words.specs.Tests.{some, lowest};
 ghost use Rattle.bits.specs.Word.{marked};
 ghost use Rattle.verdict.specs.Limits.{transactions, objects};
 ghost use Rattle.verdict.specs.Log.{steps, kind, tx};
 ghost use Rattle.verdict.specs.Refusal.{log-refusal};
 ghost use Rattle.verdict.specs.Snapshot.{last-committed, wanted, wrong-read, clash, snapshot-verdict};
 ghost use Rattle.verdict.specs.Call.{SnapshotCall};
-ghost use Rattle.verdict.specs.Inner.Clashes.{FirstClash};
+ghost use Rattle.verdict.specs.Inner.Clashes.{LastCommits, CommitNoted, FirstClash};
 ghost use Rattle.verdict.specs.Inner.Marks.{FirstSteps};
 ghost use Rattle.verdict.specs.Inner.NextWriters.{NextWriters};
 ghost use Rattle.verdict.specs.Inner.WriteTable.{WriteTable};
@@ -127,7 +127,7 @@ fn first_wrong(
     i
 }
 
-// Whether step j, the commit of t, is the later of two clashing writers, and p is its partner.
+// What step j, the commit of t, and p clash over: marks of the objects that both write, where p committed before step j and since t began.
 fn clashes(
     writes: &[u64; Transaction::TABLE],
     begins: &[u16; Transaction::TABLE],
@@ -136,33 +136,46 @@ fn clashes(
     j: usize,
     t: u16,
     p: u16,
-) -> bool
+) -> u64
     requires { ⌜ (log-refusal (now log) ≡ Passed) × WriteTable (now log) (now writes) × FirstSteps (now log) 1 (now begins)
         × FirstSteps (now log) 4 (now commits) × (j < steps (now log)) × (kind (now log) j ≡ 4) × (tx (now log) j ≡ t) × (t ≤ transactions) × (p ≤ transactions) ⌝ }
-    ensures { λ r. ⌜ r ≡ clash (now (log .entry)) j p ⌝ }
+    ensures { λ r. ⌜ some objects (marked r) ≡ clash (now (log .entry)) j p ⌝ }
 {
     let theirs = step_of(commits, p);
     if j <= theirs {
-        return false;
+        return 0;
     }
     if theirs <= step_of(begins, t) {
-        return false;
+        return 0;
     }
-    if step_of(commits, t) <= step_of(begins, p) {
-        return false;
-    }
-    bits::share(writes[index(t)], writes[index(p)])
+    bits::common(writes[index(t)], writes[index(p)])
 }
 
-// Whether t and p both write x.
-fn both_write(writes: &[u64; Transaction::TABLE], t: u16, p: u16, x: u16) -> bool
-    requires { ⌜ (t ≤ transactions) × (p ≤ transactions) ⌝ }
-    ensures { λ r. ⌜ r ≡ (marked (getD (now (writes .entry)) t 0) x and marked (getD (now (writes .entry)) p 0) x) ⌝ }
+// Notes step j in the table of the last commits. Answers who commits there, where an object that it writes was written by one who committed
+// since it began; else 0.
+fn note_commit(
+    last: &mut [u16; Object::TABLE],
+    log: &[u16],
+    writes: &[u64; Transaction::TABLE],
+    begins: &[u16; Transaction::TABLE],
+    j: usize,
+) -> u16
+    requires { ⌜ (log-refusal (now log) ≡ Passed) × WriteTable (now log) (now writes) × FirstSteps (now log) 1 (now begins)
+        × LastCommits (now log) j (now last) × (j < steps (now log)) ⌝ }
+    ensures { λ r. ⌜ CommitNoted (now (log .entry)) j r (now (last .exit)) ⌝ }
 {
-    if !object_marked(writes, t, x) {
-        return false;
+    let step = step_at(log, j);
+    if step.kind != Step::COMMIT {
+        return 0;
     }
-    object_marked(writes, p, x)
+    let t = step.tx;
+    let mine = writes[index(t)];
+    let since = bits::marked_above(last, mine, step_of(begins, t));
+    *last = bits::put_marked(*last, mine, j as u16);
+    if since {
+        return t;
+    }
+    0
 }
 
 // A clash: the commit of the later writer, and the partner.
@@ -187,28 +200,23 @@ fn first_clash(
     let mut last = [0u16; Object::TABLE];
     let mut j = 0;
     let mut p: u16 = 0;
-    let mut x: u16 = 0;
     'search: while j < k {
-        let step = step_at(log, j);
-        if step.kind == Step::COMMIT {
-            let t = step.tx;
-            let mine = writes[index(t)];
-            if bits::marked_above(&last, mine, step_of(begins, t) + 1) {
-                p = 0;
-                while p <= Transaction::LIMIT {
-                    if clashes(writes, begins, commits, log, j, t, p) {
-                        x = 0;
-                        while x < Object::LIMIT {
-                            if both_write(writes, t, p, x) {
-                                break 'search;
-                            }
-                            x += 1;
+        let t = note_commit(&mut last, log, writes, begins, j);
+        if t != 0 {
+            p = 0;
+            while p <= Transaction::LIMIT {
+                let both = clashes(writes, begins, commits, log, j, t, p);
+                if both != 0 {
+                    let mut x = 0;
+                    while x < Object::TABLE {
+                        if bits::has_mark(both, x) {
+                            break 'search;
                         }
+                        x += 1;
                     }
-                    p += 1;
                 }
+                p += 1;
             }
-            last = bits::put_marked(last, mine, (j + 1) as u16);
         }
         j += 1;
     }
@@ -243,11 +251,14 @@ pub(crate) fn judge_snapshot(
     Snapshot::Yes
 }
 
-// The snapshot verdict of a well-formed log, by the marks of what each transaction writes.
+// The snapshot verdict of a well-formed log, by the marks of what each transaction writes. A log without steps needs no tables.
 fn snapshot_by_marks(log: &[u16], found: Examined) -> Snapshot
     requires { ⌜ (log-refusal (now log) ≡ Passed) × WriteTable (now log) (found .writes) ⌝ }
     ensures { λ r. ⌜ r ≡ snapshot-verdict transactions (now (log .entry)) ⌝ }
 {
+    if log.len() == 0 {
+        return Snapshot::Yes;
+    }
     let writes = found.writes;
     let mut next = [0u8; Transaction::PAIRS];
     next_writers(log, &writes, &mut next);

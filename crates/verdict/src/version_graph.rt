@@ -20,48 +20,43 @@ use crate::step::step_at;
 use crate::tables::next_of;
 use crate::tables::next_writers;
 ghost use mathlib.Core.Path.{_≡_};
-ghost use Prim.Native.Nat.{suc, _≤_, _+_, _*_};
-ghost use lib.ListN.{length};
-ghost use Rattle.verdict.specs.Limits.{transactions};
-ghost use Rattle.verdict.specs.Log.{kind, tx, obj, src};
+ghost use Prim.Native.Nat.{suc, _≤_, _<_, _+_, _*_};
+ghost use lib.ListN.{length, getD};
+ghost use Rattle.graph.specs.Matrix.{row-words};
+ghost use Rattle.verdict.specs.Limits.{transactions, objects};
 ghost use Rattle.verdict.specs.Refusal.{log-refusal};
 ghost use Rattle.verdict.specs.Clean.{cleanness};
 ghost use Rattle.verdict.specs.Judgement.{Holds};
 ghost use Rattle.verdict.specs.Version.{version-edge, Version};
 ghost use Rattle.verdict.specs.Call.{VersionCall};
 ghost use Rattle.verdict.specs.Inner.Marks.{Committed};
-ghost use Rattle.verdict.specs.Inner.Edges.{matrix-bytes, no-edge, with-edge, Drawn};
+ghost use Rattle.verdict.specs.Inner.Edges.{no-edge, EdgesAdded, Drawn};
 ghost use Rattle.verdict.specs.Inner.NextWriters.{NextWriters};
-ghost use Rattle.verdict.specs.Inner.VersionEdges.{next-writer, versions-until};
+ghost use Rattle.verdict.specs.Inner.VersionEdges.{versions-until};
 ghost use Rattle.verdict.specs.Inner.WriteTable.{WriteTable};
 ghost use Rattle.verdict.specs.declared.answers.Checked.the-variants.{Passed};
 
-// The edge of a write: from its transaction to the writer of the next version.
-fn mark_write(log: &[u16], matrix: &mut [u8], next: &[u8; Transaction::PAIRS], i: usize)
-    requires { ⌜ (log-refusal (now log) ≡ Passed) × (4 * i + 4 ≤ length (now log)) × (kind (now log) i ≡ 3) × NextWriters (now log) (now next) × (length (now matrix) ≡ matrix-bytes) ⌝ }
-    ensures { λ _. ⌜ now (matrix .exit) ≡ with-edge (now (matrix .entry)) (tx (now (log .entry)) i) (next-writer (now (log .entry)) (obj (now (log .entry)) i) (tx (now (log .entry)) i)) ⌝ }
+// The edges of a step that reads or writes version v of x: from v's writer to t, and from t to the writer of the version after it.
+fn mark_version(
+    matrix: &mut [u64; graph::ROWS],
+    next: &[u8; Transaction::PAIRS],
+    t: u16,
+    x: u16,
+    v: u16,
+)
+    requires { ⌜ (length (now matrix) ≡ row-words) × (v ≤ transactions) × (x < objects) ⌝ }
+    ensures { λ _. ⌜ EdgesAdded (now (matrix .entry)) v t (getD (now (next .entry)) (v * objects + x) 0) (now (matrix .exit)) ⌝ }
 {
-    let step = step_at(log, i);
-    let then = next_of(next, step.tx, step.obj);
-    join(matrix, step.tx, then);
-}
-
-// The edges of a read: from its source to the reader, and from the reader to the writer of the version after the one read.
-fn mark_read(log: &[u16], matrix: &mut [u8], next: &[u8; Transaction::PAIRS], i: usize)
-    requires { ⌜ (log-refusal (now log) ≡ Passed) × (4 * i + 4 ≤ length (now log)) × (kind (now log) i ≡ 2) × NextWriters (now log) (now next) × (length (now matrix) ≡ matrix-bytes) ⌝ }
-    ensures { λ _. ⌜ now (matrix .exit) ≡ with-edge (with-edge (now (matrix .entry)) (src (now (log .entry)) i) (tx (now (log .entry)) i)) (tx (now (log .entry)) i) (next-writer (now (log .entry)) (obj (now (log .entry)) i) (src (now (log .entry)) i)) ⌝ }
-{
-    let step = step_at(log, i);
-    let then = next_of(next, step.src, step.obj);
-    join(matrix, step.src, step.tx);
-    join(matrix, step.tx, then);
+    let then = next_of(next, v, x);
+    join(matrix, v, t);
+    join(matrix, t, then);
 }
 
 // The edges of step i.
 fn mark_step(
     log: &[u16],
-    matrix: &mut [u8],
-    part: &[u8; Transaction::COUNT],
+    matrix: &mut [u64; graph::ROWS],
+    part: &[u64; graph::WORDS],
     next: &[u8; Transaction::PAIRS],
     i: usize,
 )
@@ -74,19 +69,19 @@ fn mark_step(
         return;
     }
     if step.kind == Step::READ {
-        mark_read(log, matrix, next, i);
+        mark_version(matrix, next, step.tx, step.obj, step.src);
         return;
     }
     if step.kind == Step::WRITE {
-        mark_write(log, matrix, next, i);
+        mark_version(matrix, next, step.tx, step.obj, step.tx);
     }
 }
 
 // Draws the edges of the version graph in a matrix that has none.
 pub(crate) fn draw(
     log: &[u16],
-    matrix: &mut [u8],
-    part: &[u8; Transaction::COUNT],
+    matrix: &mut [u64; graph::ROWS],
+    part: &[u64; graph::WORDS],
     next: &[u8; Transaction::PAIRS],
 )
     requires { ⌜ (log-refusal (now log) ≡ Passed) × Committed (now log) (now part) × NextWriters (now log) (now next) × Drawn no-edge (now matrix) ⌝ }
@@ -104,7 +99,7 @@ pub(crate) fn draw(
 pub(crate) fn judge_version(
     log: &[u16],
     clean: Cleanness,
-    part: [u8; Transaction::COUNT],
+    part: [u64; graph::WORDS],
     next: &[u8; Transaction::PAIRS],
 ) -> Witnessed
     requires { ⌜ (log-refusal (now log) ≡ Passed) × (clean ≡ cleanness (now log)) × Committed (now log) part × NextWriters (now log) (now next) ⌝ }
@@ -113,7 +108,7 @@ pub(crate) fn judge_version(
     if let Cleanness::Unclean(fault) = clean {
         return without_members(Answer::Unclean(fault));
     }
-    let mut matrix = [0u8; graph::MATRIX];
+    let mut matrix = [0u64; graph::ROWS];
     draw(log, &mut matrix, &part, next);
     show(&matrix, part)
 }

@@ -15,13 +15,13 @@ start c = c .before .before
 
 follow-requires : tie.Need-follow-requires
 follow-requires c κs =
-    let size : length (start c .args .part) ≡ 128 = search needs in
+    let size : length (start c .args .part) ≡ 2 = search needs in
     (order-short _ _ size _ (start c .pre), omega arith, start c .pre)
 
 returns : tie.Need-returns
 unfolding zeros _below_
 returns c =
-    let size : length (start (c .before) .args .part) ≡ 128 = search needs in
+    let size : length (start (c .before) .args .part) ≡ 2 = search needs in
     next-follows _ _ size _ _ refl (c .follow .ensures)
 
 pub next-spec : {M : Type 1} → statement M

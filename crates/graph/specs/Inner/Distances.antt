@@ -1,14 +1,13 @@
 -- How far each vertex is from one, by walks through higher ones, and the shortest cycle so found. Private contracts cite these.
 use mathlib.Core.Path.{_≡_}
-use mathlib.Core.Bool.{Bool, true, false}
-use mathlib.Core.Logic.{_⊎_}
+use mathlib.Core.Bool.{Bool}
 use mathlib.Core.List.{List, [], _∷_}
-use Prim.Native.Nat.{ℕ, zero, suc, _-_, _≤_, _<_}
-use lib.ListN.{length, getD}
-use Rattle.words.specs.Tests.{_below_, _and_, some, lowest}
+use Prim.Native.Nat.{ℕ, zero, suc, _≤_, _<_}
+use lib.ListN.{length}
+use Rattle.words.specs.Tests.{_is_, _below_, _and_, some, lowest}
 use Rattle.words.specs.First.{shorter, First}
 use Rattle.graph.specs.Cycle.{is-cycle}
-use Rattle.graph.specs.Matrix.{vertices, joined}
+use Rattle.graph.specs.Matrix.{vertices, row-words, joined, in-row}
 use Rattle.graph.specs.Inner.Laying.{laid}
 
 module _ (edge : ℕ → ℕ → Bool) where
@@ -26,17 +25,15 @@ module _ (edge : ℕ → ℕ → Bool) where
   unfoldable pub far : ℕ → ℕ → ℕ → ℕ
   far s k t = lowest vertices (λ j. j below k and reach s j t)
 
--- what an array with an entry for each vertex has for v
-abbrev pub entry : List ℕ → ℕ → ℕ
-entry l v = getD l (v - 1) 0
+-- the rows 1 to k hold the vertices above s by how far each is from s: row 1 those with an edge to s
+pub record Layers (edge : ℕ → ℕ → Bool) (s k : ℕ) (rows : List ℕ) : Type 0 where
+  pub layer : (d t : ℕ) → d < k → in-row rows (suc d) t ≡ (s below t and far edge s vertices t is d)
 
--- g is f, with `mark` for each vertex that has 128 and passes
-pub record Spread (passes : ℕ → Bool) (mark : ℕ) (f g : ℕ → ℕ) : Type 0 where
-  pub each : (t : ℕ) → 1 ≤ t → t ≤ vertices → ((f t ≡ vertices) × (passes t ≡ true) × (g t ≡ mark)) ⊎ ((g t ≡ f t) × (f t ≡ vertices → passes t ≡ false))
-
--- f has for each vertex how far it is from s, by walks with fewer than k nodes on the way
-pub record Near (edge : ℕ → ℕ → Bool) (s k : ℕ) (f : ℕ → ℕ) : Type 0 where
-  pub each : (t : ℕ) → 1 ≤ t → t ≤ vertices → f t ≡ far edge s k t
+-- what is found on the way around from s by walks with fewer than k nodes: how far s is from itself, and the layers in between
+pub record Around (edge : ℕ → ℕ → Bool) (s k r : ℕ) (rows : List ℕ) : Type 0 where
+  pub size : length rows ≡ row-words
+  pub home : r ≡ far edge s k s
+  pub passed : r < vertices → Layers edge s r rows
 
 -- of the closed walks from a vertex below `end` through higher ones, a shortest has k nodes on the way, and s is the lowest vertex that has such
 -- a one; k is 128 where there is none

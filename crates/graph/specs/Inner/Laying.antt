@@ -15,13 +15,14 @@ use Rattle.graph.specs.Cycle.{is-cycle}
 unfoldable pub laid : ℕ → List ℕ → List ℕ → List ℕ
 laid i w l = sets l i w
 
--- what `lay_down` does: it lays down `placed` from place i on, and ends where none of the `rest` may begin
+-- what `lay_down` does: it lays down `placed` from place i on, and ends where none of the `rest` may begin; no cycle goes through what was placed
 pub record Places (m left : List ℕ) (i : ℕ) (list : List ℕ) (count : ℕ) (rest list′ : List ℕ) : Type 0 where
   pub placed : List ℕ
   pub counted : count ≡ i + length placed
   pub lies : list′ ≡ laid i placed list
   pub order : some (suc vertices) (takes-part vertices rest) ≡ false → First dictionary (matrix-order vertices m left) placed
-  pub cycle : some (suc vertices) (takes-part vertices rest) ≡ true → (c : List ℕ) × (is-cycle (joined vertices m left) c ≡ true)
+  pub cycle : some (suc vertices) (takes-part vertices rest) ≡ true → (c : List ℕ) × (is-cycle (joined vertices m rest) c ≡ true)
+  pub around : (c : List ℕ) → is-cycle (joined vertices m rest) c ≡ is-cycle (joined vertices m left) c
 
 -- how many entries stand once the found list was laid down from place i on; 0 where none was found
 unfoldable pub until : ℕ → Option (List ℕ) → ℕ

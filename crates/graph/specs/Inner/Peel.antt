@@ -2,8 +2,8 @@
 use mathlib.Core.Bool.{Bool}
 use mathlib.Core.List.{List}
 use Prim.Native.Nat.{ℕ, suc, _-_}
-use lib.ListN.{set}
 use Rattle.words.specs.Tests.{_is_, _below_, _and_, fails, some}
+use Rattle.bits.specs.Run.{without-bit}
 use Rattle.graph.specs.Matrix.{vertices, takes-part, joined}
 
 -- an order may begin with b: it is a node, and no edge leads to it
@@ -23,4 +23,4 @@ may-begin m left = free (suc vertices) (takes-part vertices left) (joined vertic
 
 -- the marks without v's
 unfoldable pub unmarked : ℕ → List ℕ → List ℕ
-unmarked v left = set left (v - 1) 0
+unmarked v left = without-bit left (v - 1)

@@ -5,10 +5,10 @@ use Rattle.graph_show.proofs.main.Statement.{statement}
 use Rattle.graph_show.proofs.main.Tie as tie
 
 abbrev Inv-loop : tie.InvT-loop
-Inv-loop m₀ number₀ m number = number ≤ 65
+Inv-loop number₀ number = number ≤ 65
 
 abbrev μ-loop : tie.MeasureT-loop
-μ-loop m₀ number₀ m number = 65 - number
+μ-loop number₀ number = 65 - number
 
 loop-holds : tie.Need-loop-holds Inv-loop μ-loop
 loop-holds c = search needs

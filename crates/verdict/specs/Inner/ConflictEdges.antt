@@ -1,12 +1,34 @@
 -- The edges of the conflict graph, pair of steps by pair of steps.
+use mathlib.Core.Path.{_≡_}
 use mathlib.Core.Bool.{Bool}
+use mathlib.Core.Logic.{_⊎_}
 use mathlib.Core.List.{List}
-use Prim.Native.Nat.{ℕ}
-use Rattle.words.specs.Tests.{_is_, _and_, _or_, fails, some}
+use Prim.Native.Nat.{ℕ, suc, _+_, _<_}
+use lib.ListN.{length}
+use Rattle.words.specs.Tests.{_is_, _and_, _or_, fails, if_then_else_, some}
+use Rattle.graph.specs.Matrix.{row-words, in-row}
+use Rattle.verdict.specs.Limits.{objects}
 use Rattle.verdict.specs.Log.{steps, kind, tx, obj, committed}
 use Rattle.verdict.specs.Inner.Edges.{one-edge}
 
+-- which row has those that read an object, and which those that write it; 0 stands for none
+unfoldable pub touched-row : ℕ → ℕ → ℕ
+touched-row k x = if k is 2 then suc x else if k is 3 then suc (x + objects) else 0
+
+-- a is among those whose earlier steps meet a step of kind k on x: the writers of x, and for a write its readers too
+unfoldable pub earlier-touch : List ℕ → ℕ → ℕ → ℕ → Bool
+earlier-touch rows k x a = (k is 2 or k is 3) and in-row rows (touched-row 3 x) a or k is 3 and in-row rows (touched-row 2 x) a
+
 module _ (log : List ℕ) where
+  -- step i, of a committed transaction, is a's, and touches x in the way of kind k
+  unfoldable pub touched-by : ℕ → ℕ → ℕ → ℕ → Bool
+  touched-by k x a i = committed log (tx log i) and kind log i is k and obj log i is x and tx log i is a
+
+  -- the rows have those that the first j steps say
+  pub record Touched (j : ℕ) (rows : List ℕ) : Type 0 where
+    pub size : length rows ≡ row-words
+    pub mark : (k x a : ℕ) → (k ≡ 2) ⊎ (k ≡ 3) → x < objects → in-row rows (touched-row k x) a ≡ some j (touched-by k x a)
+
   -- step i reads or writes
   unfoldable pub touches : ℕ → Bool
   touches i = kind log i is 2 or kind log i is 3

@@ -1,11 +1,12 @@
--- The edges of a graph of transactions, drawn in a matrix of bytes.
+-- The edges of a graph of transactions, drawn in rows of marks.
 use mathlib.Core.Path.{_≡_}
 use mathlib.Core.Bool.{Bool, false}
 use mathlib.Core.List.{List}
-use Prim.Native.Nat.{ℕ, suc, _+_, _-_, _*_, _≤_}
-use lib.ListN.{length, getD, set}
-use Rattle.words.specs.Tests.{_is_, _and_, fails, if_then_else_}
+use Prim.Native.Nat.{ℕ, suc, _≤_}
+use lib.ListN.{length}
+use Rattle.words.specs.Tests.{_is_, _and_, _or_, fails}
 use Rattle.words.specs.Lists.{entries}
+use Rattle.graph.specs.Matrix.{row-words, in-row}
 use Rattle.graph.specs.Shows.{Shows}
 use Rattle.graph.specs.declared.Shape.{Shape}
 use Rattle.graph.specs.declared.Shape.the-variants as shapes
@@ -25,22 +26,24 @@ one-edge s t a b = kept s t and s is a and t is b
 unfoldable pub no-edge : ℕ → ℕ → Bool
 no-edge a b = false
 
--- a byte for each pair of transactions
-abbrev pub matrix-bytes : ℕ
-matrix-bytes = transactions * transactions
+-- all pairs of different transactions
+abbrev pub Pair : ℕ → ℕ → Type 0
+Pair a b = (a ≡ b → ⊥) × (1 ≤ a) × (a ≤ transactions) × (1 ≤ b) × (b ≤ transactions)
 
--- where the byte for an edge from a to b stands: a row for each transaction, and in it a column for each
-abbrev pub byte-at : ℕ → ℕ → ℕ
-byte-at a b = (a - 1) * transactions + (b - 1)
+-- the rows of m′ have the edge from s to t beside those of m
+pub record EdgeAdded (m : List ℕ) (s t : ℕ) (m′ : List ℕ) : Type 0 where
+  pub size : length m′ ≡ length m
+  pub mark : (a b : ℕ) → Pair a b → in-row m′ b a ≡ (in-row m b a or one-edge s t a b)
 
--- the matrix with the edge from s to t, if it is kept
-unfoldable pub with-edge : List ℕ → ℕ → ℕ → List ℕ
-with-edge m s t = if kept s t then set m (byte-at s t) 1 else m
+-- .. and the edges from v to t, and from t to u
+pub record EdgesAdded (m : List ℕ) (v t u : ℕ) (m′ : List ℕ) : Type 0 where
+  pub size : length m′ ≡ length m
+  pub mark : (a b : ℕ) → Pair a b → in-row m′ b a ≡ (in-row m b a or (one-edge v t a b or one-edge t u a b))
 
--- for all pairs of transactions at once: the byte for a and b is not 0 exactly where an edge leads from a to b
+-- for all pairs at once: a is marked in the row of b exactly where an edge leads from a to b
 pub record Drawn (edge : ℕ → ℕ → Bool) (m : List ℕ) : Type 0 where
-  pub size : length m ≡ matrix-bytes
-  pub byte : (a b : ℕ) → (1 ≤ a) × (a ≤ transactions) → (1 ≤ b) × (b ≤ transactions) → fails (getD m (byte-at a b) 0 is 0) ≡ edge a b
+  pub size : length m ≡ row-words
+  pub mark : (a b : ℕ) → Pair a b → in-row m b a ≡ edge a b
 
 -- an order or a cycle of n members
 unfoldable pub answer-of : Shape → ℕ → Answer

@@ -4,7 +4,6 @@ use Prim.Native.Nat.{ℕ, _<_, _-_}
 use native.Mathlib.Omega.{arith}
 use lib.ListN.{length, getD}
 use borrow.Author.Needs.{needs}
-use Rattle.graph.specs.Inner.Peel.{unmarked}
 use Rattle.graph.proofs.Marks.{Part}
 use Rattle.graph.proofs.Turn.{at-end, at-vertex, at-rest, at-room, at-same, at-higher}
 use borrow.Fn.Kinds.{In}
@@ -13,6 +12,7 @@ use Rattle.graph.proofs.onward.follow.Reads as follow
 use Rattle.graph.proofs.onward.follow.Kinds as follow-kinds
 use Rattle.graph.proofs.onward.+follow.Lts-follow as follow-lts
 use Rattle.graph.proofs.onward.higher.Reads as higher-reads
+use Rattle.graph.proofs.sets.dropped.Reads as dropped-reads
 use Rattle.graph.proofs.onward.+follow.{statement}
 use Rattle.graph.proofs.onward.+follow.Tie.{close}
 
@@ -26,9 +26,9 @@ abbrev follow-below : ℕ → In 3 follow-kinds.ps
 follow-below t = and 3 follow-kinds.ps (falls 3 follow-kinds.ps _<_ μ-follow t) follow.Pre
 
 module _ (t : ℕ) where
-  -- what the two calls are known to do where the measure is t
+  -- what the calls are known to do where the measure is t
   abbrev claims : follow-lts.Claims
-  claims = (follow-below t, follow.Post, higher-reads.Asked, higher-reads.Learnt)
+  claims = (dropped-reads.Asked, dropped-reads.Learnt, follow-below t, follow.Post, higher-reads.Asked, higher-reads.Learnt)
 
   -- the entry, from where the vertex at place i was read
   abbrev start : follow-lts.After-shared-slice-known2 claims (follow-at t) follow.Post → follow-lts.Start claims (follow-at t) follow.Post
@@ -36,11 +36,11 @@ module _ (t : ℕ) where
 
   -- where the vertex was read, from behind the recursive call
   abbrev read : follow-lts.After-follow claims (follow-at t) follow.Post → follow-lts.After-shared-slice-known2 claims (follow-at t) follow.Post
-  read c = c .before .before
+  read c = c .before .before .before
 
   follow-returns : follow-lts.Need-returns claims (follow-at t) follow.Post
   follow-returns c =
-      let size : length (c .before .before .args .left) ≡ 128 = search needs in
+      let size : length (c .before .before .args .left) ≡ 2 = search needs in
       at-end _ _ size _ _ (c .before .before .pre .1 .2) (c .if1 .taken) _
 
   follow-mul-a : follow-lts.Need-mul-a claims (follow-at t) follow.Post
@@ -54,27 +54,23 @@ module _ (t : ℕ) where
       → Part 128 (start c .args .left) (getD (start c .args .given .now) (start c .args .i) 0)
   vertex c =
       let here = start c in
-      let size : length (here .args .left) ≡ 128 = search needs in
+      let size : length (here .args .left) ≡ 2 = search needs in
       at-vertex _ _ size (here .args .given .now) (here .args .i) (here .pre .1 .2) (omega arith)
 
   follow-cast-a : follow-lts.Need-cast-a claims (follow-at t) follow.Post
   follow-cast-a c = omega (arith, vertex c .high)
 
-  follow-sub-behind : follow-lts.Need-sub-behind claims (follow-at t) follow.Post
-  follow-sub-behind c = vertex c .low
-
-  follow-array-write-behind : follow-lts.Need-array-write-behind claims (follow-at t) follow.Post
-  follow-array-write-behind c = omega (arith, vertex c .low, vertex c .high)
+  follow-dropped-requires : follow-lts.Need-dropped-requires claims (follow-at t) follow.Post
+  follow-dropped-requires c κs = let p = vertex (c .before) in (p .low, p .high)
 
   follow-add-follow : follow-lts.Need-add-follow claims (follow-at t) follow.Post
   follow-add-follow c = omega arith
 
   follow-follow-requires : follow-lts.Need-follow-requires claims (follow-at t) follow.Post
-  unfolding unmarked
   follow-follow-requires c κs =
-      let here = start (c .before) in
-      let size : length (here .args .left) ≡ 128 = search needs in
-      (omega arith, (omega arith, omega arith, at-rest _ _ size (here .args .given .now) (here .args .i) (here .pre .1 .2) (omega arith)))
+      let here = start (c .before .before) in
+      let size : length (here .args .left) ≡ 2 = search needs in
+      (omega arith, (omega arith, omega arith, rw (c .dropped .ensures) (at-rest _ _ size (here .args .given .now) (here .args .i) (here .pre .1 .2) (omega arith))))
 
   follow-cast-list : follow-lts.Need-cast-list claims (follow-at t) follow.Post
   follow-cast-list c = omega (arith, vertex (read (c .before)) .high)
@@ -86,25 +82,23 @@ module _ (t : ℕ) where
   follow-element-write-list c = omega arith
 
   follow-returns-2 : follow-lts.Need-returns-2 claims (follow-at t) follow.Post
-  unfolding unmarked
   follow-returns-2 c =
       let here = start (read (c .before)) in
-      let size : length (here .args .left) ≡ 128 = search needs in
-      at-same _ _ size _ _ (here .pre .1 .2) (omega arith) _ _ _ (c .before .follow .ensures) (c .if2 .taken)
+      let size : length (here .args .left) ≡ 2 = search needs in
+      at-same _ _ size _ _ (here .pre .1 .2) (omega arith) _ _ _ (rw (c .before .before .dropped .ensures) at (c .before .follow .ensures)) (c .if2 .taken)
 
   follow-higher-requires : follow-lts.Need-higher-requires claims (follow-at t) follow.Post
   follow-higher-requires c κs =
       let here = start (read (c .before .before)) in
-      let size : length (here .args .left) ≡ 128 = search needs in
+      let size : length (here .args .left) ≡ 2 = search needs in
       (vertex (read (c .before .before)) .high, at-room _ _ size _ _ (here .pre .1 .2) (omega arith) (here .pre .1 .0))
 
   follow-returns-3 : follow-lts.Need-returns-3 claims (follow-at t) follow.Post
-  unfolding unmarked
   follow-returns-3 c =
       let behind = c .before .before .before in
       let here = start (read behind) in
-      let size : length (here .args .left) ≡ 128 = search needs in
-      at-higher _ _ size _ _ (here .pre .1 .2) (omega arith) _ _ _ (behind .follow .ensures) (c .before .before .if2 .left) _ _ (c .higher .ensures)
+      let size : length (here .args .left) ≡ 2 = search needs in
+      at-higher _ _ size _ _ (here .pre .1 .2) (omega arith) _ _ _ (rw (behind .before .dropped .ensures) at (behind .follow .ensures)) (c .before .before .if2 .left) _ _ (c .higher .ensures)
 
 pub +follow-spec : {M : Type 1} → statement M
 +follow-spec = close μ-follow λ t. follow-lts.spec (claims t)
@@ -114,8 +108,7 @@ pub +follow-spec : {M : Type 1} → statement M
     (follow-mul-a t)
     (follow-shared-slice-read-a t)
     (follow-cast-a t)
-    (follow-sub-behind t)
-    (follow-array-write-behind t)
+    (follow-dropped-requires t)
     (follow-add-follow t)
     (follow-follow-requires t)
     (follow-cast-list t)

@@ -1,28 +1,27 @@
 -- `keeps` meets its contract.
 use mathlib.Core.Path.{_≡_, refl, sym, ap, _∙_}
-use Prim.Native.Nat.{_≤_, _-_}
+use Prim.Native.Nat.{_≤_, _-_, _*_}
 use native.Mathlib.Omega.{arith}
-use lib.ListN.{length, getD, drop, length-set}
-use borrow.Author.Needs.{needs}
+use lib.ListN.{length, getD, drop}
 use borrow.Author.Tests.{not-true, not-false}
 use Rattle.words.specs.Tests.{fails}
 use Rattle.graph.specs.Matrix.{matrix-order}
-use Rattle.graph.specs.Inner.Peel.{unmarked}
 use Rattle.words.proofs.Truth.{not-fails, and-true, and-no-left}
 use Rattle.graph.proofs.Peel.{free→}
-use Rattle.graph.proofs.Marks.{Part, part→, matrix-turn, matrix-end}
+use Rattle.graph.proofs.Marks.{Part, part→, size-unmarked, matrix-turn, matrix-end}
+use borrow.Author.Needs.{needs}
 use Rattle.graph.proofs.order.keeps.Statement.{statement}
 use Rattle.graph.proofs.order.keeps.Tie as tie
 
 abbrev Inv-loop : tie.InvT-loop
-Inv-loop m given left₀ i₀ left i = (i ≤ length given) × (length left ≡ 128) × (matrix-order 128 m left₀ given ≡ matrix-order 128 m left (drop i given))
+Inv-loop m given left₀ i₀ left i = (i ≤ length given) × (length left ≡ 2) × (matrix-order 128 m left₀ given ≡ matrix-order 128 m left (drop i given))
 
 abbrev μ-loop : tie.MeasureT-loop
 μ-loop m given left₀ i₀ left i = length given - i
 
 -- the top of the loop, from where the vertex was asked
 abbrev top : tie.After-begins Inv-loop μ-loop → tie.At-loop Inv-loop μ-loop
-top c = c .before .before .before .before
+top c = c .before .before .before
 
 -- the entry, from there
 abbrev start : tie.At-loop Inv-loop μ-loop → tie.Start Inv-loop μ-loop
@@ -45,18 +44,15 @@ cast-v : tie.Need-cast-v Inv-loop μ-loop
 cast-v c = omega (arith, c .shared-slice-known2 .given (c .before .before .loop .i))
 
 begins-requires : tie.Need-begins-requires Inv-loop μ-loop
-begins-requires c κs = omega arith
+begins-requires c κs = search needs
 
 returns : tie.Need-returns Inv-loop μ-loop
 returns c =
     let at = top (c .before) .loop in
     sym (at .inv .2 ∙ matrix-turn 128 _ _ (omega arith) _ (at .i) (omega arith) ∙ and-no-left _ (sym (c .before .begins .ensures) ∙ not-true _ (c .if1 .taken)))
 
-sub-left : tie.Need-sub-left Inv-loop μ-loop
-sub-left c = begun c .low
-
-array-write-left : tie.Need-array-write-left Inv-loop μ-loop
-array-write-left c = omega (arith, begun c .low, begun c .high)
+dropped-requires : tie.Need-dropped-requires Inv-loop μ-loop
+dropped-requires c κs = (begun c .low, begun c .high)
 
 add-i : tie.Need-add-i Inv-loop μ-loop
 add-i c = omega arith
@@ -65,18 +61,19 @@ loop-less : tie.Need-loop-less Inv-loop μ-loop
 loop-less c = omega arith
 
 loop-again : tie.Need-loop-again Inv-loop μ-loop
-unfolding unmarked
 loop-again c =
-    let at = top (c .before) .loop in
-    (omega arith, simp length-set (omega arith), at .inv .2 ∙ matrix-turn 128 _ _ (omega arith) _ (at .i) (omega arith) ∙ and-true (sym (c .before .begins .ensures) ∙ not-false _ (c .if1 .left)))
+    let asked = c .before in
+    let at = top (asked .before) .loop in
+    let rest = c .dropped .ensures in
+    (omega arith, rw rest (size-unmarked _ _ ∙ at .inv .1), rw rest (at .inv .2 ∙ matrix-turn 128 _ _ (omega arith) _ (at .i) (omega arith) ∙ and-true (sym (asked .before .begins .ensures) ∙ not-false _ (asked .if1 .left))))
 
-some-left-requires : tie.Need-some-left-requires Inv-loop μ-loop
-some-left-requires c κs = search needs
+any-requires : tie.Need-any-requires Inv-loop μ-loop
+any-requires c κs = search needs
 
 returns-2 : tie.Need-returns-2 Inv-loop μ-loop
 returns-2 c =
-    let at = c .before .before .before .loop in
-    not-fails _ ∙ ap fails (c .some-left .ensures) ∙ sym (at .inv .2 ∙ matrix-end 128 _ _ _ (at .i) (omega arith))
+    let at = c .before .before .loop in
+    not-fails _ ∙ ap fails (c .any .ensures) ∙ sym (at .inv .2 ∙ matrix-end 128 _ _ _ (at .i) (omega arith))
 
 pub keeps-spec : {M : Type 1} → statement M
 keeps-spec =
@@ -90,10 +87,9 @@ keeps-spec =
     cast-v
     begins-requires
     returns
-    sub-left
-    array-write-left
+    dropped-requires
     add-i
     loop-less
     loop-again
-    some-left-requires
+    any-requires
     returns-2)

@@ -1,62 +1,108 @@
 -- `lay_down` meets its contract.
-use mathlib.Core.Path.{_≡_}
-use Prim.Native.Nat.{_<_, _≤_, _-_}
+use mathlib.Core.Path.{_≡_, refl, sym, _∙_}
+use mathlib.Core.Bool.{true}
+use Prim.Native.Nat.{_≤_, _<_, _-_}
 use native.Mathlib.Omega.{arith}
+use lib.ListN.{length}
 use borrow.Author.Needs.{needs}
 use Rattle.words.specs.Tests.{_upto_, _and_, lowest}
-use Rattle.graph.specs.Inner.Peel.{may-begin, unmarked}
+use Rattle.graph.specs.Matrix.{takes-part}
+use Rattle.graph.specs.Inner.Peel.{may-begin}
+use Rattle.graph.specs.Inner.Waiting.{nobody, Settled}
+use Rattle.graph.proofs.Marks.{part→}
+use Rattle.graph.proofs.Members.{turn}
 use Rattle.graph.proofs.Filled.{Filled, filled-none, filled-next, filled-more, filled-all}
+use Rattle.graph.proofs.Ready.{settled-none, settled-placed, next-lowest, none-next}
 use Rattle.graph.proofs.order.lay_down.Statement.{statement}
 use Rattle.graph.proofs.order.lay_down.Tie as tie
 
 abbrev Inv-loop : tie.InvT-loop
-Inv-loop list₀ m start left₀ n₀ v₀ list left n v = (v ≡ lowest 129 (λ t. 1 upto t and may-begin m left t)) × Filled m left₀ start list₀ n left list
+Inv-loop list₀ m start left₀ n₀ wait₀ ready₀ list left n wait ready = (length ready ≡ 2) × Settled m left wait ready nobody × Filled m left₀ start list₀ n left list
 
 abbrev μ-loop : tie.MeasureT-loop
-μ-loop list₀ m start left₀ n₀ v₀ list left n v = 128 - n
+μ-loop list₀ m start left₀ n₀ wait₀ ready₀ list left n wait ready = 128 - n
 
-lowest-beginning-requires : tie.Need-lowest-beginning-requires Inv-loop μ-loop
-lowest-beginning-requires c κs = search needs
+-- the top of the loop, from where the next vertex is known
+abbrev top : tie.After-first Inv-loop μ-loop → tie.At-loop Inv-loop μ-loop
+top c = c .before .before .before
+
+-- it is ready, and the lowest that may come next
+ready : (c : tie.After-first Inv-loop μ-loop) → takes-part 128 (top c .loop .ready) (c .first .result) ≡ true
+ready c = turn _ _ (sym (c .before .before .any .ensures) ∙ c .before .if1 .taken) (c .first .ensures)
+
+lowest-next : (c : tie.After-first Inv-loop μ-loop) → c .first .result ≡ lowest 129 (λ t. 1 upto t and may-begin (top c .before .before .before .args .m .now) (top c .loop .left) t)
+lowest-next c = next-lowest (top c .loop .inv .1) _ (c .first .ensures)
+
+vertex : (c : tie.After-first Inv-loop μ-loop) → (1 ≤ c .first .result) × (c .first .result ≤ 128)
+vertex c = let p = part→ 128 _ _ (ready c) in (p .low, p .high)
+
+-- there is room for it
+room : (c : tie.After-first Inv-loop μ-loop) → top c .loop .n < 128
+room c = filled-next (top c .loop .inv .2) _ (lowest-next c) (vertex c .1) .1
+
+settle-all-requires : tie.Need-settle-all-requires Inv-loop μ-loop
+unfolding nobody
+settle-all-requires c κs = settled-none _ _ _ (search needs) (search needs)
 
 loop-holds : tie.Need-loop-holds Inv-loop μ-loop
-loop-holds c = (c .lowest-beginning .ensures, filled-none _ _ _ _ (search needs) (omega arith))
+loop-holds c = (search needs, c .settle-all .ensures, filled-none _ _ _ _ (search needs) (omega arith))
 
--- there is room for the vertex found
-next : (c : tie.In-loop Inv-loop μ-loop) → (1 ≤ c .before .loop .v) × (c .before .loop .n < 128)
-next c = filled-next (c .before .loop .inv .1) _ (c .before .loop .inv .0) (omega arith)
+any-requires : tie.Need-any-requires Inv-loop μ-loop
+any-requires c κs = search needs
 
-sub-left : tie.Need-sub-left Inv-loop μ-loop
-sub-left c = next c .0
-
-array-write-left : tie.Need-array-write-left Inv-loop μ-loop
-array-write-left c = omega (arith, next c .0)
+first-requires : tie.Need-first-requires Inv-loop μ-loop
+first-requires c κs = search needs
 
 cast-list : tie.Need-cast-list Inv-loop μ-loop
-cast-list c = omega arith
+cast-list c = omega (arith, vertex c .1)
 
 mul-list : tie.Need-mul-list Inv-loop μ-loop
-mul-list c = omega (arith, next c .1)
+mul-list c = omega (arith, room c)
 
 element-write-list : tie.Need-element-write-list Inv-loop μ-loop
-element-write-list c = omega (arith, next c .1)
+element-write-list c = omega (arith, room c)
 
 add-n : tie.Need-add-n Inv-loop μ-loop
-add-n c = omega (arith, next c .1)
+add-n c = omega (arith, room c)
 
-lowest-beginning-requires-2 : tie.Need-lowest-beginning-requires-2 Inv-loop μ-loop
-lowest-beginning-requires-2 c κs = omega arith
+dropped-requires : tie.Need-dropped-requires Inv-loop μ-loop
+dropped-requires c κs = vertex c
+
+row-requires : tie.Need-row-requires Inv-loop μ-loop
+row-requires c κs = search needs
+
+common-requires : tie.Need-common-requires Inv-loop μ-loop
+common-requires c κs = search needs
+
+dropped-requires-2 : tie.Need-dropped-requires-2 Inv-loop μ-loop
+dropped-requires-2 c κs = vertex (c .before .before .before .before .before)
+
+settle-all-requires-2 : tie.Need-settle-all-requires-2 Inv-loop μ-loop
+settle-all-requires-2 c κs =
+    let freed = c .before .before in
+    let waits = freed .before in
+    let rest = waits .before .before in
+    let found = rest .before in
+    let at = top found .loop in
+    let kept = rest .dropped .ensures in
+    rw (kept, c .dropped2 .ensures)
+    (settled-placed (at .inv .1) (at .inv .2 .size) (at .inv .0) _ (ready found) _ (search needs)
+    (λ t. freed .common .ensures t ∙ rw (waits .row .ensures t, kept) refl))
 
 loop-less : tie.Need-loop-less Inv-loop μ-loop
-loop-less c = omega (arith, next (c .before .before) .1)
+loop-less c = omega (arith, room (c .before .before .before .before .before .before .before))
 
 loop-again : tie.Need-loop-again Inv-loop μ-loop
-unfolding unmarked
 loop-again c =
-    let at = c .before .before .before .loop in
-    (c .lowest-beginning2 .ensures, filled-more (at .inv .1) _ (at .inv .0) (omega arith))
+    let rest = c .before .before .before .before .before .before in
+    let found = rest .before in
+    let at = top found .loop in
+    (search needs, c .settle-all2 .ensures, rw (rest .dropped .ensures) (filled-more (at .inv .2) _ (lowest-next found) (vertex found .1)))
 
 returns : tie.Need-returns Inv-loop μ-loop
-returns c = filled-all (c .before .loop .inv .1) _ (c .before .loop .inv .0) (omega arith)
+returns c =
+    let at = c .before .before .loop in
+    filled-all (at .inv .2) 129 (none-next (at .inv .1) (sym (c .before .any .ensures) ∙ c .if1 .left)) (omega arith)
 
 pub lay-down-spec : {M : Type 1} → statement M
 lay-down-spec =
@@ -64,15 +110,19 @@ lay-down-spec =
     (tie.spec
     Inv-loop
     μ-loop
-    lowest-beginning-requires
+    settle-all-requires
     loop-holds
-    sub-left
-    array-write-left
+    any-requires
+    first-requires
     cast-list
     mul-list
     element-write-list
     add-n
-    lowest-beginning-requires-2
+    dropped-requires
+    row-requires
+    common-requires
+    dropped-requires-2
+    settle-all-requires-2
     loop-less
     loop-again
     returns)

@@ -13,8 +13,8 @@ abbrev μ-loop : tie.MeasureT-loop
 loop-holds : tie.Need-loop-holds Inv-loop μ-loop
 loop-holds c = search needs
 
-row-requires : tie.Need-row-requires Inv-loop μ-loop
-row-requires c κs = search needs
+edges-from-requires : tie.Need-edges-from-requires Inv-loop μ-loop
+edges-from-requires c κs = search needs
 
 add-a : tie.Need-add-a Inv-loop μ-loop
 add-a c = search needs
@@ -30,4 +30,5 @@ returns c = search needs
 
 pub edges-spec : {M : Type 1} → statement M
 edges-spec =
-    tie.close (tie.spec Inv-loop μ-loop loop-holds row-requires add-a loop-less loop-again returns)
+    tie.close
+    (tie.spec Inv-loop μ-loop loop-holds edges-from-requires add-a loop-less loop-again returns)

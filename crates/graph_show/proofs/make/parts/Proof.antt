@@ -5,10 +5,10 @@ use Rattle.graph_show.proofs.make.parts.Statement.{statement}
 use Rattle.graph_show.proofs.make.parts.Tie as tie
 
 abbrev Inv-loop : tie.InvT-loop
-Inv-loop number part₀ state₀ v₀ part state v = v ≤ 128
+Inv-loop number part₀ state₀ v₀ part state v = v ≤ 129
 
 abbrev μ-loop : tie.MeasureT-loop
-μ-loop number part₀ state₀ v₀ part state v = 128 - v
+μ-loop number part₀ state₀ v₀ part state v = 129 - v
 
 sub-state : tie.Need-sub-state Inv-loop μ-loop
 sub-state c = search needs
@@ -19,14 +19,11 @@ loop-holds c = search needs
 draw-requires : tie.Need-draw-requires Inv-loop μ-loop
 draw-requires c κs = search needs
 
-hit-requires : tie.Need-hit-requires Inv-loop μ-loop
-hit-requires c κs = search needs
+stands-requires : tie.Need-stands-requires Inv-loop μ-loop
+stands-requires c κs = search needs
 
-cast-part : tie.Need-cast-part Inv-loop μ-loop
-cast-part c = search needs
-
-array-write-part : tie.Need-array-write-part Inv-loop μ-loop
-array-write-part c = search needs
+with-vertex-requires : tie.Need-with-vertex-requires Inv-loop μ-loop
+with-vertex-requires c κs = search needs
 
 add-v : tie.Need-add-v Inv-loop μ-loop
 add-v c = search needs
@@ -49,9 +46,8 @@ parts-spec =
     sub-state
     loop-holds
     draw-requires
-    hit-requires
-    cast-part
-    array-write-part
+    stands-requires
+    with-vertex-requires
     add-v
     loop-less
     loop-again

@@ -11,9 +11,6 @@ use Rattle.verdict.proofs.conflict_graph.judge_conflict.Tie as tie
 abbrev entry : tie.After-part → tie.Start
 entry c = c .before .before .before
 
-slice-aggregate-draw : tie.Need-slice-aggregate-draw
-slice-aggregate-draw c = search needs
-
 draw-requires : tie.Need-draw-requires
 unfolding zeros
 draw-requires c κs = let q = entry c .pre in (q .0, q .1, no-edges refl)
@@ -22,7 +19,7 @@ show-requires : tie.Need-show-requires
 show-requires c κs = search needs
 
 returns : tie.Need-returns
-returns c = let drawn = c .before .before .before in conflict-holds (entry (drawn .before) .pre .1) (drawn .draw .ensures) (c .show .ensures)
+returns c = let drawn = c .before .before in conflict-holds (entry (drawn .before) .pre .1) (drawn .draw .ensures) (c .show .ensures)
 
 pub judge-conflict-spec : {M : Type 1} → statement M
-judge-conflict-spec = tie.close (tie.spec slice-aggregate-draw draw-requires show-requires returns)
+judge-conflict-spec = tie.close (tie.spec draw-requires show-requires returns)

@@ -10,11 +10,8 @@ use Rattle.verdict.proofs.following.in_version_graph.Tie as tie
 abbrev entry : tie.After-part → tie.Start
 entry c = c .before .before .before .before
 
-abbrev drawn : tie.After-matrix3 → tie.After-draw
-drawn c = c .before .before
-
-slice-aggregate-draw : tie.Need-slice-aggregate-draw
-slice-aggregate-draw c = search needs
+abbrev drawn : tie.After-matrix2 → tie.After-draw
+drawn c = c .before
 
 draw-requires : tie.Need-draw-requires
 unfolding zeros
@@ -30,4 +27,4 @@ returns : tie.Need-returns
 returns c = c .follow .ensures
 
 pub in-version-graph-spec : {M : Type 1} → statement M
-in-version-graph-spec = tie.close (tie.spec slice-aggregate-draw draw-requires follow-requires returns)
+in-version-graph-spec = tie.close (tie.spec draw-requires follow-requires returns)

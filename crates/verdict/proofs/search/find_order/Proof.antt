@@ -2,88 +2,99 @@
 use mathlib.Core.Path.{_≡_}
 use Prim.Native.Nat.{ℕ, _≤_}
 use native.Mathlib.Omega.{arith}
-use borrow.Author.Needs.{needs}
 use borrow.Author.Tests.{not-true, not-false}
 use lib.ListN.{length}
 use Rattle.verdict.specs.Limits.{most-searched}
 use Rattle.verdict.proofs.Memberless.{holds-none}
 use Rattle.verdict.proofs.Versions.{committed-range}
 use Rattle.verdict.proofs.WellFormed.{well-formed}
-use Rattle.verdict.proofs.Searching.{few-enough, nothing-placed, order-found, none-found}
+use Rattle.verdict.proofs.Searching.{few-enough, nothing-placed, nobody-placed, order-found, none-found}
+use borrow.Author.Needs.{needs}
 use Rattle.verdict.proofs.search.find_order.Statement.{statement}
 use Rattle.verdict.proofs.search.find_order.Tie as tie
 
--- the entry, the needs, the list of the committed ones and what each asks for, each from where the next is made
-abbrev entry : tie.After-need-table → tie.Start
+-- the entry, the list of the committed ones, and what each asks for, each from where the next is made
+abbrev entry : tie.After-list-committed → tie.Start
 entry c = c .before .before .before
 
-abbrev need-known : tie.After-list-committed → tie.After-need-table
-need-known c = c .before .before
-
-abbrev listed : tie.After-all-needed → tie.After-list-committed
+abbrev listed : tie.After-need-table → tie.After-list-committed
 listed c = c .before .before .before .before
 
 abbrev asked : tie.After-asks → tie.After-all-needed
 asked c = c .before .before .before
 
+abbrev found-list : tie.After-place → tie.After-list-committed
+found-list c = listed (asked (c .before) .before .before .before)
+
 -- no more are left than the search takes
 few : (c : tie.After-list-committed) → c .list-committed .result .count ≤ most-searched
-few c = let q = entry (need-known c) .pre in few-enough _ (c .list-committed .ensures) (q .0) (q .2)
+few c = let q = entry c .pre in few-enough _ (c .list-committed .ensures) (q .0) (q .2)
 
 -- the order has room for all that the search takes
 room : (c : tie.After-order) → length (c .before .before .place .result .order) ≡ most-searched
 room c = search needs
 
-need-table-requires : tie.Need-need-table-requires
-need-table-requires c κs = search needs
-
 list-committed-requires : tie.Need-list-committed-requires
 list-committed-requires c κs = search needs
-
-all-needed-requires : tie.Need-all-needed-requires
-all-needed-requires c κs =
-    let l = c .before .before .before in
-    (few l, λ i h. committed-range _ (well-formed _ (entry (need-known l) .pre .0)) _ (l .list-committed .ensures .each i h) .1)
-
-place-requires : tie.Need-place-requires
-place-requires c κs =
-    let a = asked c in
-    let l = listed a in
-    let made = need-known l in
-    let q = entry made .pre in (
-      record { passed = q .0; clean = q .1; needs = made .need-table .ensures; written = q .4; list = l .list-committed .ensures; asked = a .all-needed .ensures; few = few l },
-      nothing-placed _ _ (few l),
-    )
 
 without-members-requires : tie.Need-without-members-requires
 without-members-requires c κs = search needs
 
 returns : tie.Need-returns
 returns c =
-    let p = c .before .before in
-    let q = entry (need-known (listed (asked (p .before)))) .pre in
-    holds-none (none-found _ _ _ (q .1) (rw (not-true (p .place .result .found) (c .before .if1 .taken)) at (p .place .ensures))) (c .without-members .ensures)
+    let l = c .before .before .before in
+    let q = entry l .pre in
+    nobody-placed (q .0) (q .1) (rw (c .before .if1 .taken) at (l .list-committed .ensures)) (c .without-members .ensures)
 
-list-of-requires : tie.Need-list-of-requires
-list-of-requires c κs = few (listed (asked (c .before .before .before)))
+need-table-requires : tie.Need-need-table-requires
+need-table-requires c κs = search needs
+
+all-needed-requires : tie.Need-all-needed-requires
+all-needed-requires c κs =
+    let l = listed (c .before .before) in
+    (few l, λ i h. committed-range _ (well-formed _ (entry l .pre .0)) _ (l .list-committed .ensures .each i h) .1)
+
+place-requires : tie.Need-place-requires
+place-requires c κs =
+    let a = asked c in
+    let made = a .before .before .before in
+    let l = listed made in
+    let q = entry l .pre in (
+      record { passed = q .0; clean = q .1; needs = made .need-table .ensures; written = q .4; list = l .list-committed .ensures; asked = a .all-needed .ensures; few = few l },
+      nothing-placed _ _ (few l),
+    )
+
+without-members-requires-2 : tie.Need-without-members-requires-2
+without-members-requires-2 c κs = search needs
 
 returns-2 : tie.Need-returns-2
 returns-2 c =
+    let p = c .before .before in
+    let q = entry (found-list p) .pre in
+    holds-none (none-found _ _ _ (q .1) (rw (not-true (p .place .result .found) (c .before .if2 .taken)) at (p .place .ensures))) (c .without-members2 .ensures)
+
+list-of-requires : tie.Need-list-of-requires
+list-of-requires c κs = few (found-list (c .before .before))
+
+returns-3 : tie.Need-returns-3
+returns-3 c =
     let e = c .before .before in
     let p = e .before in
-    let l = listed (asked (p .before)) in
+    let l = found-list p in
     let n : ℕ = l .list-committed .result .count in
-    order-found _ n (p .place .result .order) _ (omega (arith, few l, room (c .before))) (rw (not-false (p .place .result .found) (e .if1 .left)) at (p .place .ensures)) (c .list-of .ensures)
+    order-found _ n (p .place .result .order) _ (omega (arith, few l, room (c .before))) (rw (not-false (p .place .result .found) (e .if2 .left)) at (p .place .ensures)) (c .list-of .ensures)
 
 pub find-order-spec : {M : Type 1} → statement M
 find-order-spec =
     tie.close
     (tie.spec
-    need-table-requires
     list-committed-requires
-    all-needed-requires
-    place-requires
     without-members-requires
     returns
+    need-table-requires
+    all-needed-requires
+    place-requires
+    without-members-requires-2
+    returns-2
     list-of-requires
-    returns-2)
+    returns-3)

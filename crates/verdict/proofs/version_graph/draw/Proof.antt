@@ -22,11 +22,11 @@ abbrev μ-loop : tie.MeasureT-loop
 
 -- the entry, from the top of the loop
 abbrev entry : tie.At-loop Inv-loop μ-loop → tie.Start Inv-loop μ-loop
-entry c = c .before .before .before
+entry c = c .before .before
 
 loop-holds : tie.Need-loop-holds Inv-loop μ-loop
 unfolding versions-until some no-edge
-loop-holds c = (refl, omega arith, same-edges (c .before .before .pre .3) (λ a b. refl))
+loop-holds c = (refl, omega arith, same-edges (c .before .pre .3) (λ a b. refl))
 
 mark-step-requires : tie.Need-mark-step-requires Inv-loop μ-loop
 mark-step-requires c κs = let top = c .before .before in (entry top .pre .0, omega arith, entry top .pre .1, entry top .pre .2, top .loop .inv .2)
@@ -38,10 +38,7 @@ loop-less : tie.Need-loop-less Inv-loop μ-loop
 loop-less c = omega arith
 
 loop-again : tie.Need-loop-again Inv-loop μ-loop
-loop-again c = let marked = c .before .before in (refl, omega arith, rw (add-one (marked .before .before .before .loop .i)) (marked .mark-step .ensures))
-
-same-length : tie.Need-same-length Inv-loop μ-loop
-same-length c = c .before .loop .inv .2 .size ∙ sym (entry (c .before) .pre .3 .size)
+loop-again c = (refl, omega arith, rw (add-one (c .before .before .before .loop .i)) (c .mark-step .ensures))
 
 returns : tie.Need-returns Inv-loop μ-loop
 unfolding steps
@@ -60,5 +57,4 @@ draw-spec =
     add-i
     loop-less
     loop-again
-    same-length
     returns)

@@ -30,9 +30,6 @@ returns c = let told = c .before .before in
 enum-told : tie.Need-enum-told
 enum-told c = search needs
 
-slice-aggregate-draw : tie.Need-slice-aggregate-draw
-slice-aggregate-draw c = search needs
-
 draw-requires : tie.Need-draw-requires
 unfolding zeros
 draw-requires c κs = let q = entry (clean c) .pre in (q .0, q .2, q .3, no-edges refl)
@@ -41,7 +38,7 @@ show-requires : tie.Need-show-requires
 show-requires c κs = search needs
 
 returns-2 : tie.Need-returns-2
-returns-2 c = let drawn = c .before .before .before in
+returns-2 c = let drawn = c .before .before in
     let told = clean (drawn .before) in
     let q = entry told .pre in
     version-holds (well-formed _ (q .0)) (sym (q .1) ∙ told .enum-told .given .1) (q .2) (drawn .draw .ensures) (c .show .ensures)
@@ -54,7 +51,6 @@ judge-version-spec =
     without-members-requires
     returns
     enum-told
-    slice-aggregate-draw
     draw-requires
     show-requires
     returns-2)

@@ -1,0 +1,88 @@
+-- `join` meets its contract.
+use native.Mathlib.Omega.{arith}
+use Prim.Native.Nat.{_≤_}
+use Rattle.graph.proofs.RowLaws.{row-joined, none-joined}
+use borrow.Author.Needs.{needs}
+use Rattle.graph.proofs.rows.join.Statement.{statement}
+use Rattle.graph.proofs.rows.join.Tie as tie
+
+returns : tie.Need-returns
+returns c = none-joined _ _ _ (λ (l : 1 ≤ c .before .args .b) _. omega arith)
+
+returns-2 : tie.Need-returns-2
+returns-2 c = none-joined _ _ _ (λ _ (h : c .before .before .args .b ≤ 128). omega arith)
+
+sub-i : tie.Need-sub-i
+sub-i c = search needs
+
+mul-i : tie.Need-mul-i
+mul-i c = search needs
+
+mul-union : tie.Need-mul-union
+mul-union c = search needs
+
+element-copy-out-union : tie.Need-element-copy-out-union
+element-copy-out-union c = search needs
+
+array-read-union : tie.Need-array-read-union
+array-read-union c = search needs
+
+union-requires : tie.Need-union-requires
+union-requires c κs = search needs
+
+mul-m : tie.Need-mul-m
+mul-m c = search needs
+
+element-write-m : tie.Need-element-write-m
+element-write-m c = search needs
+
+add-union : tie.Need-add-union
+add-union c = search needs
+
+mul-union-2 : tie.Need-mul-union-2
+mul-union-2 c = search needs
+
+element-copy-out-union-2 : tie.Need-element-copy-out-union-2
+element-copy-out-union-2 c = search needs
+
+array-read-union-2 : tie.Need-array-read-union-2
+array-read-union-2 c = search needs
+
+union-requires-2 : tie.Need-union-requires-2
+union-requires-2 c κs = search needs
+
+add-m : tie.Need-add-m
+add-m c = search needs
+
+mul-m-2 : tie.Need-mul-m-2
+mul-m-2 c = search needs
+
+element-write-m-2 : tie.Need-element-write-m-2
+element-write-m-2 c = search needs
+
+returns-3 : tie.Need-returns-3
+returns-3 c = row-joined _ _ _ _ _ (omega arith) (omega arith) (c .before .before .union .ensures) (c .union2 .ensures)
+
+pub join-spec : {M : Type 1} → statement M
+join-spec =
+    tie.close
+    (tie.spec
+    returns
+    returns-2
+    sub-i
+    mul-i
+    mul-union
+    element-copy-out-union
+    array-read-union
+    union-requires
+    mul-m
+    element-write-m
+    add-union
+    mul-union-2
+    element-copy-out-union-2
+    array-read-union-2
+    union-requires-2
+    add-m
+    mul-m-2
+    element-write-m-2
+    returns-3)
