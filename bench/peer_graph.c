@@ -62,15 +62,29 @@ static unsigned shortest_through(const struct graph *g, unsigned start, set with
     return 0;
 }
 
+/* The members of `left` from which an edge leads to a higher one: no other is the lowest of a cycle. */
+static set rising(const struct graph *g, set left)
+{
+    set rises = {{0, 0}}, lower = {{0, 0}};
+    while (!set_is_empty(&left)) {
+        unsigned t = set_take_lowest(&left);
+        rises = set_or(rises, set_and(g->before[t], lower));
+        set_add(&lower, t);
+    }
+    return rises;
+}
+
 /* Writes the first of the shortest cycles, which lies in `left`, and answers its length. */
 static unsigned first_cycle(const struct graph *g, set left, uint16_t *witness)
 {
-    set level[TRANSACTIONS], within = {{0, 0}};
+    set level[TRANSACTIONS], within = {{0, 0}}, rises = rising(g, left);
     unsigned best = TRANSACTIONS + 1, start = 0;
 
     /* Looks for cycles with t as their lowest member, and only for shorter ones. */
     while (best > 2 && !set_is_empty(&left)) {
         unsigned t = set_take_lowest(&left);
+        if (!set_has(&rises, t))
+            continue;
         unsigned length = shortest_through(g, t, left, best - 1, level);
         if (length != 0) {
             best = length;
