@@ -1,3 +1,4 @@
 -- Marks kept as the bits of numbers.
 pub mod Word
 pub mod Run
+pub mod Table

@@ -3,10 +3,10 @@ use super::any_mark;
 use super::lowest_mark;
 use super::without_mark;
 ghost use mathlib.Core.Path.{_≡_};
-ghost use Prim.Native.Nat.{ℕ, _<_};
 ghost use lib.ListN.{getD};
-ghost use Rattle.words.specs.Tests.{_below_, _and_, if_then_else_, some};
+ghost use Rattle.words.specs.Tests.{_below_, _and_, some};
 ghost use Rattle.bits.specs.Word.{marked};
+ghost use Rattle.bits.specs.Table.{Puts};
 
 // An entry as a number.
 fn wide(e: u16) -> usize
@@ -15,18 +15,16 @@ fn wide(e: u16) -> usize
     e as usize
 }
 
-// The table with v at each mark.
-pub fn put_marked(table: [u16; 64], marks: u64, v: u16) -> [u16; 64]
-    ensures { λ r. ⌜ ((x : ℕ) → x < 64 → getD r x 0 ≡ (if marked marks x then v else getD table x 0)) ⌝ }
+// Puts v at each mark of the table.
+pub fn put_marked(table: &mut [u16; 64], marks: u64, v: u16)
+    ensures { λ _. ⌜ Puts (now (table .entry)) marks v (now (table .exit)) ⌝ }
 {
-    let mut next = table;
     let mut left = marks;
     while any_mark(left) {
         let x = lowest_mark(left);
-        next[x] = v;
+        table[x] = v;
         left = without_mark(left, x);
     }
-    next
 }
 
 // Whether the table has more than b at some mark.

@@ -151,7 +151,7 @@ above-high r a s big p q t = go (place t)
         ∙ same-test (λ k. let w : s < t = below→ (and→ k .1) in →and (→upto (omega arith)) (and→ k .0)) (λ k. let w : s - 64 ≤ t - 65 = upto→ (and→ k .0) in →and (and→ k .1) (→below (omega arith))))
 
 -- one vertex more
-pub with-one : (s : List ℕ) (v : ℕ) → length s ≡ 2 → 1 ≤ v → v ≤ 128 → (t : ℕ)
+with-one : (s : List ℕ) (v : ℕ) → length s ≡ 2 → 1 ≤ v → v ≤ 128 → (t : ℕ)
     → takes-part 128 (set s ((v - 1) / 64) (more (getD s ((v - 1) / 64) 0) ((v - 1) % 64))) t ≡ (t is v and 1 upto v and v upto 128 or takes-part 128 s t)
 with-one s v size l h t = go (decide (1 upto t and t upto 128))
   where
@@ -169,6 +169,28 @@ with-one s v size l h t = go (decide (1 upto t and t upto 128))
     go (inr k) =
         let o : 1 ≤ t → t ≤ 128 → ⊥ = λ a b. not-both (→and (→upto a) (→upto b)) k in
         no-vertex after t o ∙ sym (or-false (here ∙ →isnt (λ (e : t ≡ v). o (omega arith) (omega arith))) ∙ no-vertex s t o)
+
+-- .. in the first number, or in the second
+two-of : (s : List ℕ) → length s ≡ 2 → s ≡ getD s 0 0 ∷ getD s 1 0 ∷ []
+two-of [] e = absurd (omega (arith, e))
+two-of (a ∷ []) e = absurd (omega (arith, e))
+two-of (a ∷ b ∷ []) e = refl
+two-of (a ∷ b ∷ c ∷ s) e = absurd (omega (arith, e))
+
+module _ (s : List ℕ) (v : ℕ) (size : length s ≡ 2) where
+  pub with-low : {m : ℕ} → 1 ≤ v → v ≤ 64 → m ≡ (if v - 1 below 64 then more (getD s 0 0) (v - 1) else getD s 0 0) → (t : ℕ)
+      → takes-part 128 (m ∷ getD s 1 0 ∷ []) t ≡ (t is v and 1 upto v and v upto 128 or takes-part 128 s t)
+  with-low l h e t =
+      let q : (v - 1) / 64 ≡ 0 = omega arith in
+      let r : (v - 1) % 64 ≡ v - 1 = omega arith in
+      rw (e ∙ if-true _ _ (→below (omega arith))) (ap (λ (z : List ℕ). takes-part 128 (set z 0 (more (getD s 0 0) (v - 1))) t) (sym (two-of s size)) ∙ (rw (q, r) at (with-one s v size l (omega arith) t)))
+
+  pub with-high : {m : ℕ} → 65 ≤ v → v ≤ 128 → m ≡ (if v - 65 below 64 then more (getD s 1 0) (v - 65) else getD s 1 0) → (t : ℕ)
+      → takes-part 128 (getD s 0 0 ∷ m ∷ []) t ≡ (t is v and 1 upto v and v upto 128 or takes-part 128 s t)
+  with-high l h e t =
+      let q : (v - 1) / 64 ≡ 1 = omega arith in
+      let r : (v - 1) % 64 ≡ v - 65 = omega arith in
+      rw (e ∙ if-true _ _ (→below (omega arith))) (ap (λ (z : List ℕ). takes-part 128 (set z 1 (more (getD s 1 0) (v - 65))) t) (sym (two-of s size)) ∙ (rw (q, r) at (with-one s v size (omega arith) h t)))
 
 pub none-with : (s : List ℕ) (v : ℕ) → (1 ≤ v → v ≤ 128 → ⊥) → (t : ℕ) → takes-part 128 s t ≡ (t is v and 1 upto v and v upto 128 or takes-part 128 s t)
 none-with s v o t = sym (or-false (to-false _ (λ h. let r = and→ h in o (upto→ (and→ (r .0) .1)) (upto→ (r .1)))))

@@ -31,11 +31,10 @@ pub fn with_vertex(those: [u64; WORDS], v: usize) -> [u64; WORDS]
     if VERTICES < v {
         return those;
     }
-    let k = v - 1;
-    let i = k / 64;
-    let mut more = those;
-    more[i] = bits::with_mark(those[i], k % 64);
-    more
+    if v <= 64 {
+        return [bits::with_mark(those[0], v - 1), those[1]];
+    }
+    [those[0], bits::with_mark(those[1], v - 65)]
 }
 
 // The set without v.

@@ -5,9 +5,10 @@ use mathlib.Core.Logic.{_⊎_, inl, inr}
 use mathlib.Core.List.{List}
 use Prim.Native.Nat.{ℕ, _+_, _≤_, _<_}
 use native.Mathlib.Omega.{arith}
-use lib.ListN.{getD, replicate, getD-replicate}
+use lib.ListN.{getD, replicate, getD-replicate, length-replicate}
 use Rattle.words.specs.Tests.{_below_, _and_, if_then_else_, some, lowest}
 use Rattle.words.proofs.Truth.{decide, not-both, to-false, same-test, and→, →and, and-true, and-no-left, and-no-right, is→, →is, →isnt, →below, →not-below, below→, if-true, if-false, some→, →some, →none, some-skip, lowest-le, lowest-passes}
+use Rattle.bits.specs.Table.{Puts}
 use Rattle.bits.specs.Word.{marked}
 use Rattle.bits.proofs.Marks.{no-mark}
 use Rattle.verdict.specs.Limits.{transactions, objects}
@@ -78,7 +79,7 @@ pub nobody-yet : (log : List ℕ) (m : ℕ) → m ≡ objects → LastCommits lo
 unfolding some
 nobody-yet log m e =
     let none : ℕ = 0 in
-    record { entry = λ (x : ℕ) (h : x < objects) (b : ℕ). let q : getD (replicate m none) x none ≡ none = getD-replicate m x none none (omega arith) in →not-below (omega arith) }
+    record { size = length-replicate m none ∙ e; entry = λ (x : ℕ) (h : x < objects) (b : ℕ). let q : getD (replicate m none) x none ≡ none = getD-replicate m x none none (omega arith) in →not-below (omega arith) }
 
 -- the last number below j + 1 that passes is j
 last-is : (j b : ℕ) (p : ℕ → Bool) → p j ≡ true → (b below j) ≡ some (j + 1) (λ i. b below i and p i)
@@ -87,22 +88,22 @@ last-is j b p h = same-test (λ l. →some _ j (omega arith) (→and l h)) (λ s
 module _ (log : List ℕ) (j : ℕ) {last : List ℕ} (known : LastCommits log j last) where
   pub other-step : (kind log j ≡ 4 → ⊥) → LastCommits log (j + 1) last
   unfolding commits-writer
-  other-step n = record { entry = λ x h b. known .entry x h b ∙ sym (some-skip j (λ i. b below i and commits-writer log x i) (and-no-right _ (and-no-left _ (→isnt n)))) }
+  other-step n = record { size = known .size; entry = λ x h b. known .entry x h b ∙ sym (some-skip j (λ i. b below i and commits-writer log x i) (and-no-right _ (and-no-left _ (→isnt n)))) }
 
   -- step j commits t
   module _ {writes : List ℕ} {t : ℕ} (marks : WriteTable log writes) (committing : t ≡ tx log j) (t-in : t ≤ transactions) where
     pub commit-more : {next : List ℕ} {v : ℕ} → kind log j ≡ 4 → v ≡ j
-        → ((x : ℕ) → x < objects → getD next x 0 ≡ (if marked (getD writes t 0) x then v else getD last x 0)) → LastCommits log (j + 1) next
-    commit-more {next} {v} k e put = record { entry = λ x h b. go x h b (decide (marked (getD writes t 0) x)) }
+        → Puts last (getD writes t 0) v next → LastCommits log (j + 1) next
+    commit-more {next} {v} k e put = record { size = put .size ∙ known .size; entry = λ x h b. go x h b (decide (marked (getD writes t 0) x)) }
       where
         by-mark : (x : ℕ) → x < objects → commits-writer log x j ≡ marked (getD writes t 0) x
         by-mark x h = unfold commits-writer in (and-true (→is k) ∙ ap (writer log x) (sym committing) ∙ sym (marks .mark t x t-in h))
 
         go : (x : ℕ) → x < objects → (b : ℕ) → (marked (getD writes t 0) x ≡ true) ⊎ (marked (getD writes t 0) x ≡ false)
             → (b below getD next x 0) ≡ some (j + 1) (λ i. b below i and commits-writer log x i)
-        go x h b (inl q) = ap (λ (z : ℕ). b below z) (put x h ∙ if-true _ _ q ∙ e) ∙ last-is j b (commits-writer log x) (by-mark x h ∙ q)
+        go x h b (inl q) = ap (λ (z : ℕ). b below z) (put .each (known .size) x h ∙ if-true _ _ q ∙ e) ∙ last-is j b (commits-writer log x) (by-mark x h ∙ q)
         go x h b (inr q) =
-            ap (λ (z : ℕ). b below z) (put x h ∙ if-false _ _ q) ∙ known .entry x h b
+            ap (λ (z : ℕ). b below z) (put .each (known .size) x h ∙ if-false _ _ q) ∙ known .entry x h b
             ∙ sym (some-skip j (λ i. b below i and commits-writer log x i) (and-no-right _ (by-mark x h ∙ q)))
 
     -- t has no partner where none of its objects was written by one who committed since it began

@@ -10,7 +10,6 @@ pub mod WellFormed
 pub mod Ended
 pub mod Examining
 pub mod Frame
-pub mod Marks
 pub mod WriteMarks
 pub mod NextWriters
 pub mod FirstSteps
@@ -20,6 +19,9 @@ pub mod WrongReads
 pub mod Clashing
 pub mod Loosely
 pub mod Placements
+pub mod Ranges
+pub mod Lives
+pub mod Sources
 pub mod Noting
 pub mod Matrices
 pub mod Versions

@@ -215,13 +215,14 @@ module _ (log : List ℕ) (well : Well transactions log) where
               let q = implies→ (every→ _ (sym (allowed t x) ∙ f x (well .object i h (inl (is-read log i j)))) i h) a in
               subst (λ (r : ℕ). finds log x r 0 (p ++ t ∷ []) ≡ src log i) (sym e) (finds-behind log x t 0 p [] n ∙ is→ q)
 
-      pub placed-more : ((x : ℕ) → x < objects → allows (need log t x (steps log)) (ran log x 0 p) ≡ true) → (last′ : List ℕ)
+      pub placed-more : ((x : ℕ) → x < objects → allows (need log t x (steps log)) (ran log x 0 p) ≡ true) → (last′ : List ℕ) → length last′ ≡ length last
           → ((x : ℕ) → x < objects → getD last′ x 0 ≡ (if writer log x t then t else getD last x 0)) → Replayed log (p ++ t ∷ []) last′
-      placed-more f last′ w =
+      placed-more f last′ s w =
           record {
             different = distinct-more t p (placed .different) n;
             members = →all _ (p ++ t ∷ []) (λ a k. ⊎-elim (λ l. all→ _ p (placed .members) a l) (λ (l : member a (t ∷ []) ≡ true). ⊎-elim (λ (e : a ≡ t). rw e c) (λ (z : member a [] ≡ true). absurd (false≢true (unfold member in z))) (member→ a t [] l)) (member-either a p (t ∷ []) k));
             right = right-more f;
+            size = s ∙ placed .size;
             writers = λ x h. w x h ∙ ap (λ (v : ℕ). if writer log x t then t else v) (placed .writers x h) ∙ sym (ran-more log x 0 t p);
           }
 

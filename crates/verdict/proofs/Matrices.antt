@@ -25,7 +25,6 @@ use Rattle.verdict.specs.Judgement.{Holds}
 use Rattle.verdict.specs.declared.answers.Witnessed.{Witnessed}
 use Rattle.verdict.specs.Inner.Edges.{Pair, kept, one-edge, no-edge, EdgeAdded, EdgesAdded, Drawn, answer-of, Showing}
 use Rattle.verdict.specs.Inner.Marks.{Committed}
-use Rattle.verdict.proofs.WellFormed.{Well}
 
 -- WHICH EDGES ARE KEPT
 pub record Kept (s t : ℕ) : Type 0 where
@@ -116,20 +115,6 @@ module _ {edge : ℕ → ℕ → Bool} {m : List ℕ} (drawn : Drawn edge m) whe
 -- .. of the transaction of a step
 pub told-committed : {log part : List ℕ} → Committed log part → {r : Bool} {t u : ℕ} → r ≡ takes-part transactions part t → t ≡ u → r ≡ committed log u
 told-committed {log} marks e f = e ∙ marks .mark _ ∙ ap (committed log) f
-
-module _ (log : List ℕ) (well : Well transactions log) where
-  -- one step more: the commit of a transaction, or another step
-  module _ (i : ℕ) (part : List ℕ) (marks : (t : ℕ) → takes-part transactions part t ≡ some i (commits log t)) where
-    pub commit-marked : (more : List ℕ) {u : ℕ} → u ≡ tx log i → i < steps log → kind log i ≡ 4
-        → ((t : ℕ) → takes-part transactions more t ≡ (t is u and 1 upto u and u upto transactions or takes-part transactions part t)) → (t : ℕ) → takes-part transactions more t ≡ some (i + 1) (commits log t)
-    unfolding commits
-    commit-marked more {u} e h k f t =
-        f t ∙ same-test (λ q. ⊎-elim (λ z. some-next i (commits log t) ∙ →or-right _ (→and (→is k) (→is (sym (is→ (and→ (and→ z .0) .0) ∙ e))))) (λ z. some-next i (commits log t) ∙ →or-left _ (sym (marks t) ∙ z)) (or→ q))
-        (λ q. ⊎-elim (λ z. →or-right _ (marks t ∙ z)) (λ z. let w : tx log i ≡ t = is→ (and→ z .1) in →or-left _ (→and (→and (→is (sym (e ∙ w))) (→upto (rw e (well .range i h .0)))) (→upto (rw e (well .range i h .1))))) (or→ (sym (some-next i (commits log t)) ∙ q)))
-
-    pub commit-none : (kind log i ≡ 4 → ⊥) → (t : ℕ) → takes-part transactions part t ≡ some (i + 1) (commits log t)
-    unfolding commits
-    commit-none k t = marks t ∙ sym (some-skip i (commits log t) (and-no-left _ (→isnt k)))
 
 -- WHAT IS SHOWN
 -- what `sort` gives, in the words of the verdicts

@@ -1,109 +1,131 @@
--- What the check notes of each step, and what its marks say.
+-- What the check notes of each step, and what is learned of the whole log.
 use mathlib.Core.Path.{_≡_, refl, sym, _∙_}
 use mathlib.Core.Bool.{Bool, true, false}
-use mathlib.Core.Logic.{_⊎_, ⊎-elim}
+use mathlib.Core.Logic.{inl, inr, ⊎-elim}
 use mathlib.Core.List.{List}
 use Prim.Native.Nat.{ℕ, suc, _+_, _≤_, _<_}
 use native.Mathlib.Omega.{arith}
-use lib.ListN.{getD, set, replicate, length-set, length-replicate}
-use Rattle.words.specs.Tests.{_is_, _and_, _or_, fails, some}
-use Rattle.words.proofs.Truth.{→and, and-no-left, and-no-right, →or-left, →or-right, or-no, →is, →isnt}
-use Rattle.bits.specs.Word.{marked, more}
+use lib.ListN.{length, getD, set, replicate, length-set, length-replicate}
+use Rattle.words.specs.Tests.{_is_, _below_, _upto_, _and_, _or_, if_then_else_, some}
+use Rattle.words.proofs.Truth.{same-test, and→, →and, and-no-left, and-no-right, →none, or→, →or-left, →or-right, is→, →is, →isnt, →below, →upto, if-true, to-false, not-both, →some, some→, some-skip, some-next}
+use Rattle.bits.specs.Word.{more}
+use Rattle.graph.specs.Matrix.{takes-part}
+use Rattle.graph.proofs.TwoWords.{no-member}
 use Rattle.verdict.specs.Limits.{transactions, objects}
-use Rattle.verdict.specs.Log.{steps, kind, tx, obj, begins, commits, aborts, begun, ended, wrote}
-use Rattle.verdict.specs.Refusal.{tried, open-refusal}
-use Rattle.verdict.specs.Inner.Checking.{open-by-marks, Noted}
-use Rattle.verdict.specs.Inner.Marks.{Marked}
-use Rattle.verdict.specs.Inner.WriteTable.{Written}
-use Rattle.verdict.proofs.Marks.{unmarked, mark-step, mark-skip}
-use Rattle.verdict.proofs.WriteMarks.{none-written, write-skip, write-more}
-use Rattle.verdict.proofs.Refused.{tried-same}
-
--- what was read of the mark of t tells
-pub by-mark : {p : ℕ → Bool} {m : List ℕ} {r v : Bool} {t u : ℕ} → Marked (suc transactions) p m → t ≤ transactions → u ≡ t → r ≡ fails (getD m u 0 is 0) → r ≡ v → p t ≡ v
-by-mark {t} m h a e q = sym (m .mark t (omega arith)) ∙ sym (rw a at e) ∙ q
-
--- .. and of the mark of t and x
-pub by-pair : (log : List ℕ) (i : ℕ) {w : List ℕ} {r v : Bool} {t u x y : ℕ} → Written log i w → t ≤ transactions → x < objects → u ≡ t → y ≡ x → r ≡ marked (getD w u 0) y → r ≡ v → wrote log i t x ≡ v
-by-pair log i {t} {x} m h k a b e q = sym (m .mark t x h k) ∙ sym (rw (a, b) at e) ∙ q
+use Rattle.verdict.specs.Log.{steps, kind, tx, obj, begins, commits, begun, ended, writes, writer, committed}
+use Rattle.verdict.specs.Refusal.{tried, step-refusal}
+use Rattle.verdict.specs.Inner.Marks.{does}
+use Rattle.verdict.specs.Inner.Checking.{Noted, Learned}
+use Rattle.verdict.specs.declared.refusal.Examined.{Examined}
+use Rattle.verdict.specs.declared.answers.Checked.the-variants.{Passed}
+use Rattle.verdict.proofs.WellFormed.{tried→, step-within, tx-within, object-within, fresh, alive}
+use Rattle.verdict.proofs.FirstSteps.{steps-none, steps-skip, steps-more, steps-all}
+use Rattle.verdict.proofs.Lives.{lived-none, lived-on, lived-begin, lived-end}
+use Rattle.verdict.proofs.WriteMarks.{none-written, write-skip, write-more, all-written}
 
 -- before the first step there is nothing to note
-pub noted-none : (log : List ℕ) (m : ℕ) → m ≡ suc transactions → Noted log 0 (replicate m 0) (replicate m 0) (replicate m 0)
-unfolding some begun ended
-noted-none log m h = record {
-  has-begun = unmarked m _ (omega arith) (λ c. refl);
-  has-ended = unmarked m _ (omega arith) (λ c. refl);
+pub noted-none : (log : List ℕ) (m n : ℕ) → m ≡ suc transactions → n ≡ steps log → Noted log 0 (replicate m 0) (replicate m n) (replicate m n) (replicate 2 0) (set (replicate m 0) 0 18446744073709551615)
+unfolding some
+noted-none log m n h e = record {
+  has-lived = lived-none log m h;
+  has-begun = steps-none log 1 m n h e;
+  has-committed = steps-none log 4 m n h e;
+  who-committed = no-member 2;
   has-written = none-written log m (omega arith);
-  begins-size = length-replicate m 0 ∙ h;
-  ends-size = length-replicate m 0 ∙ h;
-  writes-size = length-replicate m 0 ∙ h;
+  writes-size = length-set (replicate m 0) 0 _ ∙ length-replicate m 0 ∙ h;
 }
 
--- one step more
-module _ (log : List ℕ) (i : ℕ) {b e w : List ℕ} (noted : Noted log i b e w) where
-  no-begin : (kind log i ≡ 1 → ⊥) → Marked (suc transactions) (begun log (i + 1)) b
-  unfolding begun begins
-  no-begin k = mark-skip (λ t j. begins log t j) i (noted .has-begun) (λ t. and-no-left _ (→isnt k))
+-- one step more, which no number turns away
+module _ (log : List ℕ) (i : ℕ) {l b c p w : List ℕ} (noted : Noted log i l b c p w) (passed : step-refusal log i ≡ Passed) where
+  tx-in : (1 ≤ tx log i) × (tx log i ≤ transactions)
+  tx-in = tx-within log i (step-within log i passed)
 
-  no-end : (kind log i ≡ 4 → ⊥) → (kind log i ≡ 5 → ⊥) → Marked (suc transactions) (ended log (i + 1)) e
-  unfolding ended commits aborts
-  no-end k l = mark-skip (λ t j. commits log t j or aborts log t j) i (noted .has-ended) (λ t. or-no _ (and-no-left _ (→isnt l)) ∙ and-no-left _ (→isnt k))
+  -- another commits, or none
+  none-committed : (kind log i ≡ 4 → ⊥) → (t : ℕ) → takes-part transactions p t ≡ some (i + 1) (does log 4 t)
+  unfolding does
+  none-committed k t = noted .who-committed t ∙ sym (some-skip i (does log 4 t) (and-no-left _ (→isnt k)))
 
-  no-write : (kind log i ≡ 3 → ⊥) → Written log (i + 1) w
-  no-write k = write-skip log i (noted .has-written) k
+  one-committed : (q : List ℕ) → kind log i ≡ 4 → ((t : ℕ) → takes-part transactions q t ≡ (t is tx log i and 1 upto tx log i and tx log i upto transactions or takes-part transactions p t))
+      → (t : ℕ) → takes-part transactions q t ≡ some (i + 1) (does log 4 t)
+  unfolding does
+  one-committed q k f t =
+      f t
+      ∙ same-test (λ h. ⊎-elim (λ z. some-next i (does log 4 t) ∙ →or-right _ (→and (→is k) (→is (sym (is→ (and→ (and→ z .0) .0)))))) (λ z. some-next i (does log 4 t) ∙ →or-left _ (sym (noted .who-committed t) ∙ z)) (or→ h))
+      (λ h. ⊎-elim (λ z. →or-right _ (noted .who-committed t ∙ z)) (λ z. →or-left _ (→and (→and (→is (sym (is→ (and→ z .1)))) (→upto (tx-in .0))) (→upto (tx-in .1)))) (or→ (sym (some-next i (does log 4 t)) ∙ h)))
 
-  pub note-begin : kind log i ≡ 1 → tx log i ≤ transactions → Noted log (i + 1) (set b (tx log i) 1) e w
-  unfolding begun begins
-  note-begin k h = record {
-    has-begun = mark-step (λ t j. begins log t j) i (noted .has-begun) (tx log i) (omega (arith, noted .begins-size)) (→and (→is k) (→is refl)) (λ d n. and-no-right _ (→isnt (λ q. n (sym q))));
-    has-ended = no-end (λ (q : kind log i ≡ 4). omega arith) (λ (q : kind log i ≡ 5). omega arith);
-    has-written = no-write (λ (q : kind log i ≡ 3). omega arith);
-    begins-size = length-set b (tx log i) 1 ∙ noted .begins-size;
-    ends-size = noted .ends-size;
+  pub note-write : {u x v : ℕ} → kind log i ≡ 3 → u ≡ tx log i → x ≡ obj log i → v ≡ (if x below 64 then more (getD w u 0) x else getD w u 0) → Noted log (i + 1) l b c p (set w u v)
+  note-write {u} {x} {v} k e f g = rw (g, e, f, if-true (more (getD w (tx log i) 0) (obj log i)) (getD w (tx log i) 0) (→below (object-within log i (step-within log i passed)))) written
+    where
+      written : Noted log (i + 1) l b c p (set w (tx log i) (more (getD w (tx log i) 0) (obj log i)))
+      written = record {
+        has-lived = lived-on log i (noted .has-lived) (λ (q : kind log i ≡ 1). omega arith) (λ (q : kind log i ≡ 4). omega arith) (λ (q : kind log i ≡ 5). omega arith);
+        has-begun = steps-skip log 1 i (noted .has-begun) (λ (q : kind log i ≡ 1). omega arith);
+        has-committed = steps-skip log 4 i (noted .has-committed) (λ (q : kind log i ≡ 4). omega arith);
+        who-committed = none-committed (λ (q : kind log i ≡ 4). omega arith);
+        has-written = write-more log i (noted .has-written) k (omega (arith, noted .writes-size, tx-in .1));
+        writes-size = length-set w (tx log i) _ ∙ noted .writes-size;
+      }
+
+  pub note-read : kind log i ≡ 2 → Noted log (i + 1) l b c p w
+  note-read k = record {
+    has-lived = lived-on log i (noted .has-lived) (λ (q : kind log i ≡ 1). omega arith) (λ (q : kind log i ≡ 4). omega arith) (λ (q : kind log i ≡ 5). omega arith);
+    has-begun = steps-skip log 1 i (noted .has-begun) (λ (q : kind log i ≡ 1). omega arith);
+    has-committed = steps-skip log 4 i (noted .has-committed) (λ (q : kind log i ≡ 4). omega arith);
+    who-committed = none-committed (λ (q : kind log i ≡ 4). omega arith);
+    has-written = write-skip log i (noted .has-written) (λ (q : kind log i ≡ 3). omega arith);
     writes-size = noted .writes-size;
   }
 
-  pub note-end : (kind log i ≡ 4) ⊎ (kind log i ≡ 5) → tx log i ≤ transactions → Noted log (i + 1) b (set e (tx log i) 1) w
-  unfolding ended commits aborts
-  note-end k h = record {
-    has-begun = no-begin (λ (q : kind log i ≡ 1). ⊎-elim (λ (l : kind log i ≡ 4). omega arith) (λ (l : kind log i ≡ 5). omega arith) k);
-    has-ended = mark-step (λ t j. commits log t j or aborts log t j) i (noted .has-ended) (tx log i) (omega (arith, noted .ends-size))
-        (⊎-elim (λ (l : kind log i ≡ 4). →or-left _ (→and (→is l) (→is refl))) (λ (l : kind log i ≡ 5). →or-right _ (→and (→is l) (→is refl))) k)
-        (λ d n. or-no _ (and-no-right _ (→isnt (λ q. n (sym q)))) ∙ and-no-right _ (→isnt (λ q. n (sym q))));
-    has-written = no-write (λ (q : kind log i ≡ 3). ⊎-elim (λ (l : kind log i ≡ 4). omega arith) (λ (l : kind log i ≡ 5). omega arith) k);
-    begins-size = noted .begins-size;
-    ends-size = length-set e (tx log i) 1 ∙ noted .ends-size;
+  pub note-begin : kind log i ≡ 1 → Noted log (i + 1) (set l (tx log i) 1) (set b (tx log i) i) c p w
+  unfolding does begun begins
+  note-begin k = record {
+    has-lived = lived-begin log i (noted .has-lived) k (tx-in .1) (fresh log i passed k);
+    has-begun = steps-more log 1 i (noted .has-begun) k (tx-in .1) new;
+    has-committed = steps-skip log 4 i (noted .has-committed) (λ (q : kind log i ≡ 4). omega arith);
+    who-committed = none-committed (λ (q : kind log i ≡ 4). omega arith);
+    has-written = write-skip log i (noted .has-written) (λ (q : kind log i ≡ 3). omega arith);
+    writes-size = noted .writes-size;
+  }
+    where
+      new : some i (does log 1 (tx log i)) ≡ false
+      new = fresh log i passed k
+
+  -- the end of a transaction
+  pub note-commit : {q : List ℕ} → kind log i ≡ 4 → ((t : ℕ) → takes-part transactions q t ≡ (t is tx log i and 1 upto tx log i and tx log i upto transactions or takes-part transactions p t))
+      → Noted log (i + 1) (set l (tx log i) 2) b (set c (tx log i) i) q w
+  unfolding does ended commits
+  note-commit {q} k f = record {
+    has-lived = lived-end log i (noted .has-lived) (inl k) (tx-in .1) (alive log i passed (λ (z : kind log i ≡ 1). omega arith) .0);
+    has-begun = steps-skip log 1 i (noted .has-begun) (λ (z : kind log i ≡ 1). omega arith);
+    has-committed = steps-more log 4 i (noted .has-committed) k (tx-in .1) new;
+    who-committed = one-committed q k f;
+    has-written = write-skip log i (noted .has-written) (λ (z : kind log i ≡ 3). omega arith);
+    writes-size = noted .writes-size;
+  }
+    where
+      new : some i (does log 4 (tx log i)) ≡ false
+      new = to-false _ (λ s. let r = some→ s in not-both (→some _ (r .0) (r .1) (→or-left _ (r .2))) (alive log i passed (λ (z : kind log i ≡ 1). omega arith) .1))
+
+  pub note-abort : kind log i ≡ 5 → Noted log (i + 1) (set l (tx log i) 2) b c p w
+  note-abort k = record {
+    has-lived = lived-end log i (noted .has-lived) (inr k) (tx-in .1) (alive log i passed (λ (z : kind log i ≡ 1). omega arith) .0);
+    has-begun = steps-skip log 1 i (noted .has-begun) (λ (z : kind log i ≡ 1). omega arith);
+    has-committed = steps-skip log 4 i (noted .has-committed) (λ (z : kind log i ≡ 4). omega arith);
+    who-committed = none-committed (λ (z : kind log i ≡ 4). omega arith);
+    has-written = write-skip log i (noted .has-written) (λ (z : kind log i ≡ 3). omega arith);
     writes-size = noted .writes-size;
   }
 
-  pub note-write : kind log i ≡ 3 → obj log i < objects → tx log i ≤ transactions → Noted log (i + 1) b e (set w (tx log i) (more (getD w (tx log i) 0) (obj log i)))
-  note-write k x h = record {
-    has-begun = no-begin (λ (q : kind log i ≡ 1). omega arith);
-    has-ended = no-end (λ (q : kind log i ≡ 4). omega arith) (λ (q : kind log i ≡ 5). omega arith);
-    has-written = write-more log i (noted .has-written) k (omega (arith, noted .writes-size));
-    begins-size = noted .begins-size;
-    ends-size = noted .ends-size;
-    writes-size = length-set w (tx log i) _ ∙ noted .writes-size;
-  }
-
-  pub note-none : (kind log i ≡ 1 → ⊥) → (kind log i ≡ 3 → ⊥) → (kind log i ≡ 4 → ⊥) → (kind log i ≡ 5 → ⊥) → Noted log (i + 1) b e w
-  note-none k l m n = record {
-    has-begun = no-begin k;
-    has-ended = no-end m n;
-    has-written = no-write l;
-    begins-size = noted .begins-size;
-    ends-size = noted .ends-size;
-    writes-size = noted .writes-size;
-  }
-
--- after the last step, the marks say who is open
-pub open-marked : (log : List ℕ) {b e w : List ℕ} → Noted log (steps log) b e w → tried (suc transactions) (open-by-marks b e) ≡ tried (suc transactions) (open-refusal log)
-unfolding open-by-marks open-refusal fails
-open-marked log {b} {e} noted = tried-same _ _ _ (λ t h. rw (same (getD e t 0 is 0) (noted .has-begun .mark t h) (noted .has-ended .mark t h)) refl)
+-- what is noted after the last step is what is to be learned
+pub all-learned : (log : List ℕ) {l w : List ℕ} {r : Examined} → Noted log (steps log) l (r .begins) (r .commits) (r .part) w → r .writes ≡ set w 0 0 → tried (steps log) (step-refusal log) ≡ Passed → Learned log r
+unfolding does committed commits writer writes
+all-learned log {w} noted e passed = record {
+  begin-steps = steps-all log 1 (noted .has-begun);
+  commit-steps = steps-all log 4 (noted .has-committed);
+  who = record { mark = noted .who-committed };
+  marks = rw e (all-written log (omega (arith, noted .writes-size)) nobody (noted .has-written));
+}
   where
-    twice : (r : Bool) → fails (fails r) ≡ r
-    twice true = refl
-    twice false = refl
-
-    same : {p q s : Bool} (r : Bool) → p ≡ q → fails r ≡ s → (p and r) ≡ (q and fails s)
-    same r h k = rw (h, ← k, twice r) refl
+    -- no step is one of transaction 0
+    nobody : (x : ℕ) → writer log x 0 ≡ false
+    nobody x = →none _ (λ i h. and-no-left _ (and-no-right _ (→isnt (λ z. omega (arith, z, tx-within log i (step-within log i (tried→ _ passed i h)) .0)))))

@@ -11,7 +11,7 @@ use Rattle.verdict.specs.Limits.{transactions, most-steps}
 use Rattle.verdict.specs.Log.{steps, kind, tx, obj, src, begun, ended, wrote}
 use Rattle.verdict.specs.declared.answers.Checked.the-variants.{Passed, Refused}
 use Rattle.verdict.specs.Refusal.{_else-try_, tried, life-refusal, source-refusal, step-refusal, open-refusal, log-refusal}
-use Rattle.verdict.specs.Inner.Checking.{open-by-marks}
+use Rattle.verdict.specs.Inner.Checking.{open-by-lives}
 use Rattle.verdict.proofs.Refused.{when-yes, when-no, first-yes, first-no}
 
 module _ (log : List ℕ) (i : ℕ) where
@@ -64,15 +64,15 @@ module _ (log : List ℕ) (i : ℕ) where
       unfolding source-refusal
       source-right o = first-no 9 i _ not-9 ∙ when-no 10 i (⊎-elim (λ e. and-no-right _ (→not-fails (→is e))) (λ w. and-no-left _ (and-no-right _ w)) o)
 
--- 11, by marks
-module _ (begins ends : List ℕ) (t : ℕ) where
-  pub still-open : fails (getD begins t 0 is 0) ≡ true → fails (getD ends t 0 is 0) ≡ false → open-by-marks begins ends t ≡ Refused 11 t
-  unfolding open-by-marks
-  still-open b e = when-yes 11 t (→and b (not-fails→ e))
+-- 11, by how far each has come
+module _ (lives : List ℕ) (t : ℕ) where
+  pub still-open : getD lives t 0 ≡ 1 → open-by-lives lives t ≡ Refused 11 t
+  unfolding open-by-lives
+  still-open e = when-yes 11 t (→is e)
 
-  pub not-open : (fails (getD begins t 0 is 0) ≡ false) ⊎ (fails (getD ends t 0 is 0) ≡ true) → open-by-marks begins ends t ≡ Passed
-  unfolding open-by-marks
-  not-open o = when-no 11 t (⊎-elim (λ b. and-no-left _ b) (λ e. and-no-right _ (fails→ e)) o)
+  pub not-open : (getD lives t 0 ≡ 1 → ⊥) → open-by-lives lives t ≡ Passed
+  unfolding open-by-lives
+  not-open n = when-no 11 t (→isnt n)
 
 -- THE WHOLE LOG
 module _ (log : List ℕ) where

@@ -16,7 +16,7 @@ use Rattle.bits.proofs.Marks.{marked-less}
 use Rattle.verdict.specs.Limits.{transactions, objects}
 use Rattle.verdict.specs.Log.{steps, committed}
 use Rattle.verdict.specs.Replay.{explains-loosely}
-use Rattle.verdict.specs.Inner.Placing.{allows, may-follow, need, ran, placed-of, OneMore, Searchable, Placed, Searched, found, missed}
+use Rattle.verdict.specs.Inner.Placing.{allows, may-follow, need, ran, placed-of, OneMore, LastAfter, Searchable, Placed, Searched, found, missed}
 use Rattle.verdict.specs.declared.search.Run.{Run}
 use Rattle.verdict.proofs.WellFormed.{Well, well-formed}
 use Rattle.verdict.proofs.Versions.{committed-range}
@@ -43,7 +43,7 @@ module _ {log table writes ones asks : List ℕ} {n : ℕ} (known : Searchable l
       ⊎-elim (λ (b : (i below k) ≡ true). omega (arith, known .list .rising i k (below→ b) l))
       (λ (b : (i below k) ≡ false). omega (arith, known .list .rising k i (omega (arith, not-below→ b)) h)) (decide (i below k))
 
-  module _ {run : Run} (placed : Placed log ones n run) where
+  module _ {run : Run} {last : List ℕ} (placed : Placed log ones n run last) where
     -- nothing starts but what is on the list
     pub tried-none : Tried log (placed-of run) ones n 0
     tried-none = record { never = λ d f v. to-false _ (λ k. let r = known .list .every-one d (goes-on log well _ _ (placed .so-far) d v k .0) in f (r .0) (omega arith) (r .1) (r .2)) }
@@ -78,11 +78,11 @@ module _ {log table writes ones asks : List ℕ} {n : ℕ} (known : Searchable l
 
     -- the one at place i
     module _ (i : ℕ) (h : i < n) where
-      finding : (x : ℕ) → x < objects → allows (getD table (getD ones i 0 * objects + x) 0) (getD (run .last) x 0) ≡ allows (need log (getD ones i 0) x (steps log)) (ran log x 0 (placed-of run))
+      finding : (x : ℕ) → x < objects → allows (getD table (getD ones i 0 * objects + x) 0) (getD last x 0) ≡ allows (need log (getD ones i 0) x (steps log)) (ran log x 0 (placed-of run))
       finding x k = rw (known .needs .entry (getD ones i 0) x (known .list .each i h) (on-list i h) k, placed .so-far .writers x k) refl
 
       -- it is placed already, or would not find what it needs
-      pub not-next : may-follow table ones run i ≡ false → Never (λ v. explains-loosely transactions log (placed-of run ++ getD ones i 0 ∷ v))
+      pub not-next : may-follow table ones run last i ≡ false → Never (λ v. explains-loosely transactions log (placed-of run ++ getD ones i 0 ∷ v))
       unfolding may-follow
       not-next f v =
           to-false _
@@ -91,9 +91,9 @@ module _ {log table writes ones asks : List ℕ} {n : ℕ} (known : Searchable l
           (→and (placed .left i h ∙ →fails (r .1))
           (→every _ (λ x k. finding x k ∙ to-true _ (λ q. not-both e (never-placed log well _ _ (placed .so-far) (getD ones i 0) (r .0) (r .1) x q v))))) f)
 
-      module _ (f : may-follow table ones run i ≡ true) where
+      module _ (f : may-follow table ones run last i ≡ true) where
         -- it is left, and finds what it needs
-        follows : (marked (run .free) i ≡ true) × (every objects (λ x. allows (getD table (getD ones i 0 * objects + x) 0) (getD (run .last) x 0)) ≡ true)
+        follows : (marked (run .free) i ≡ true) × (every objects (λ x. allows (getD table (getD ones i 0 * objects + x) 0) (getD last x 0)) ≡ true)
         unfolding may-follow
         follows = and→ f
 
@@ -110,11 +110,11 @@ module _ {log table writes ones asks : List ℕ} {n : ℕ} (known : Searchable l
         room = omega (arith, placed .fills, one-fewer)
 
         -- it is placed
-        pub one-placed : {next : Run} → OneMore writes (getD ones i 0) i run next → Placed log ones n next
-        one-placed {next} one = record {
+        pub one-placed : {next : Run} {after : List ℕ} → OneMore (getD ones i 0) i run next → LastAfter writes (getD ones i 0) last after → Placed log ones n next after
+        one-placed {after = after} one wrote = record {
           so-far = rw (one .behind)
-              (placed-more log well _ _ (placed .so-far) (getD ones i 0) (known .list .each i h) not-yet (λ x k. sym (finding x k) ∙ every→ _ (follows .1) x k) (next .last)
-              (λ x k. one .written x k ∙ rw (known .written .mark (getD ones i 0) x (on-list i h) k) refl));
+              (placed-more log well _ _ (placed .so-far) (getD ones i 0) (known .list .each i h) not-yet (λ x k. sym (finding x k) ∙ every→ _ (follows .1) x k) after (wrote .size)
+              (λ x k. wrote .each x k ∙ rw (known .written .mark (getD ones i 0) x (on-list i h) k) refl));
           left = λ k l. rw (one .taken, one .behind) (marked-less (run .free) i k ∙ stays k l (decide (k is i)));
           fills = rw (one .taken) (omega (arith, one .more, placed .fills, one-fewer));
         }

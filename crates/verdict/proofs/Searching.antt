@@ -5,7 +5,7 @@ use mathlib.Core.Logic.{_⊎_, inl, inr}
 use mathlib.Core.List.{List, [], _∷_, _++_}
 use Prim.Native.Nat.{ℕ, zero, suc, _+_, _-_, _≤_, _<_}
 use native.Mathlib.Omega.{arith}
-use lib.ListN.{length, getD, set, take, replicate, getD-replicate}
+use lib.ListN.{length, getD, set, take, replicate, length-replicate, getD-replicate}
 use lib.Seq.{length-take-le, take-suc}
 use lib.Pow.{pow-pos}
 use native.Mathlib.Numerals.{add-one}
@@ -45,11 +45,11 @@ all-counted zero p f = refl
 all-counted (suc n) p f = if-true _ _ (f n (omega arith)) ∙ ap suc (all-counted n p (λ (i : ℕ) (h : i < n). f i (omega arith)))
 
 -- at first nothing is placed, and each place of the list is marked
-pub nothing-placed : (log ones : List ℕ) {n : ℕ} → n ≤ most-searched → Placed log ones n (record { free = 255; last = replicate 64 0; placed = replicate 8 0; at = 0 })
+pub nothing-placed : (log ones : List ℕ) {n : ℕ} → n ≤ most-searched → Placed log ones n (record { free = 255; placed = replicate 8 0; at = 0 }) (replicate 64 0)
 unfolding distinct all ran
 nothing-placed log ones {n} few =
     record {
-      so-far = record { different = refl; members = refl; right = λ i h j k. absurd (false≢true (unfold member in k)); writers = λ x h. getD-replicate 64 x 0 0 h };
+      so-far = record { different = refl; members = refl; right = λ i h j k. absurd (false≢true (unfold member in k)); size = length-replicate {A = ℕ} 64 0; writers = λ x h. getD-replicate 64 x 0 0 h };
       left = λ i h. every-place i (omega arith) ∙ sym (→fails (unfold member in refl));
       fills = omega (arith, all-counted n (marked 255) (λ i h. every-place i (omega arith)));
     }

@@ -14,7 +14,7 @@ use Rattle.verdict.specs.declared.answers.Checked.{Checked}
 use Rattle.verdict.specs.declared.answers.Checked.the-variants.{Passed, Refused}
 use Rattle.verdict.specs.Refusal.{_at_when_, _else-try_, tried, object-allowed, source-allowed, range-refusal, life-refusal, source-refusal, step-refusal, open-refusal, log-refusal}
 use Rattle.verdict.specs.Inner.Checking.{InRange}
-use Rattle.words.proofs.Truth.{decide, not-both, to-true, and→, →and, or→, →or-left, →or-right, →fails, not-fails→, is→, →is, →isnt, upto→, below→, not-below→, some→, →some, if-true, if-false}
+use Rattle.words.proofs.Truth.{decide, not-both, to-true, to-false, and→, →and, or→, →or-left, →or-right, →fails, not-fails→, is→, →is, →isnt, upto→, below→, not-below→, some→, →some, if-true, if-false}
 
 Has-passed : Checked → Type 0
 Has-passed Passed = Unit {0}
@@ -95,6 +95,19 @@ pub step-within : (log : List ℕ) (i : ℕ) → step-refusal log i ≡ Passed �
 unfolding step-refusal InRange
 step-within log i h = else-try→ h .0
 
+-- what begins had not begun, and any other step is one of a transaction that has begun and not ended
+module _ (log : List ℕ) (i : ℕ) (taken : step-refusal log i ≡ Passed) where
+  pub fresh : kind log i ≡ 1 → begun log i (tx log i) ≡ false
+  unfolding step-refusal life-refusal
+  fresh k = to-false _ (λ b. not-both (→and (→is k) b) (when→ 7 i _ (else-try→ (else-try→ (else-try→ taken .1) .0) .0)))
+
+  pub alive : (kind log i ≡ 1 → ⊥) → (begun log i (tx log i) ≡ true) × (ended log i (tx log i) ≡ false)
+  unfolding step-refusal life-refusal
+  alive n =
+      let test : (fails (kind log i is 1) and (fails (begun log i (tx log i)) or ended log i (tx log i))) ≡ false = when→ 8 i _ (else-try→ (else-try→ (else-try→ taken .1) .0) .1) in
+      let other : fails (kind log i is 1) ≡ true = →fails (→isnt n) in
+      (to-true _ (λ q. not-both (→and other (→or-left _ (→fails q))) test), to-false _ (λ q. not-both (→and other (→or-right _ q)) test))
+
 module _ (log : List ℕ) (well : log-refusal log ≡ Passed) where
   step-taken : (i : ℕ) → i < steps log → step-refusal log i ≡ Passed
   unfolding log-refusal
@@ -113,10 +126,6 @@ module _ (log : List ℕ) (well : log-refusal log ≡ Passed) where
   module _ (i : ℕ) (h : i < steps log) where
     pub ranges : InRange log i
     ranges = step-within log i (step-taken i h)
-
-    test-8 : (fails (kind log i is 1) and (fails (begun log i (tx log i)) or ended log i (tx log i))) ≡ false
-    unfolding step-refusal life-refusal
-    test-8 = when→ 8 i _ (else-try→ (else-try→ (else-try→ (step-taken i h) .1) .0) .1)
 
     test-9 : (kind log i is 2 and fails (src log i is 0) and fails (wrote log i (src log i) (obj log i))) ≡ false
     unfolding step-refusal source-refusal
@@ -137,7 +146,7 @@ module _ (log : List ℕ) (well : log-refusal log ≡ Passed) where
       again : (n : ℕ) → (kind log j is n) ≡ true → (tx log j is t) ≡ true → (n ≡ 1 → ⊥) → ⊥
       again n a e f =
           let g : ended log j (tx log j) ≡ true = →some _ i h (rw (is→ {m = tx log j} {n = t} e) p) in
-          not-both (→and (→fails (→isnt (λ z. f (sym (is→ {m = kind log j} {n = n} a) ∙ z)))) (→or-right _ g)) (test-8 j k)
+          not-both g (alive log j (step-taken j k) (λ z. f (sym (is→ {m = kind log j} {n = n} a) ∙ z)) .1)
 
   commits-once : (t i j : ℕ) → i < j → j < steps log → commits log t i ≡ true → commits log t j ≡ true → ⊥
   commits-once t i j h k p q = ends-once t i j h k (→or-left _ p) (→or-left _ q)
@@ -151,7 +160,7 @@ module _ (log : List ℕ) (well : log-refusal log ≡ Passed) where
 
   -- a step that does not begin is one of a transaction that has begun before it
   pub begun-before : (i : ℕ) → i < steps log → (kind log i ≡ 1 → ⊥) → begun log i (tx log i) ≡ true
-  begun-before i h n = to-true _ (λ q. not-both (→and (→fails (→isnt n)) (→or-left _ (→fails q))) (test-8 i h))
+  begun-before i h n = alive log i (step-taken i h) n .0
 
   pub has-begun : (i : ℕ) → i < steps log → (kind log i ≡ 1 → ⊥) → begun log (steps log) (tx log i) ≡ true
   unfolding begun

@@ -7,11 +7,11 @@ use crate::answers::Judgement;
 use crate::answers::Snapshot;
 use crate::cleanness::judge_clean;
 use crate::conflict_graph::judge_conflict;
-use crate::edges::committed_ones;
 use crate::exactness::judge_exact;
 use crate::leaving::exact_without_members;
 use crate::leaving::without_members;
 use crate::limits::Transaction;
+use crate::refusal::Examined;
 use crate::refusal::examine;
 use crate::snapshots::judge_snapshot;
 use crate::tables::next_writers;
@@ -19,7 +19,7 @@ use crate::version_graph::judge_version;
 ghost use mathlib.Core.Path.{_≡_};
 ghost use Rattle.verdict.specs.Refusal.{log-refusal};
 ghost use Rattle.verdict.specs.Judgement.{refused-alone, Judges, JudgeAnswer};
-ghost use Rattle.verdict.specs.Inner.WriteTable.{WriteTable};
+ghost use Rattle.verdict.specs.Inner.Checking.{Learned};
 ghost use Rattle.verdict.specs.declared.answers.Checked.the-variants.{Passed};
 
 // A refusal alone.
@@ -36,22 +36,25 @@ fn refused_alone(number: u16, place: usize) -> Judgement
     }
 }
 
-// The five verdicts of a well-formed log, by the marks of what each transaction writes.
-fn judge_all(log: &[u16], writes: &[u64; Transaction::TABLE]) -> Judgement
-    requires { ⌜ (log-refusal (now log) ≡ Passed) × WriteTable (now log) (now writes) ⌝ }
+// The five verdicts of a well-formed log, by what the check learned.
+fn judge_all(log: &[u16], found: Examined) -> Judgement
+    requires { ⌜ (log-refusal (now log) ≡ Passed) × Learned (now log) found ⌝ }
     ensures { λ r. ⌜ Judges (now (log .entry)) r ⌝ }
 {
-    let part = committed_ones(log);
+    let begins = found.begins;
+    let commits = found.commits;
+    let part = found.part;
+    let writes = found.writes;
     let mut next = [0u8; Transaction::PAIRS];
-    next_writers(log, writes, &mut next);
+    next_writers(log, &writes, &mut next);
     let clean = judge_clean(log, &part);
     Judgement {
         checked: Checked::Passed,
         clean,
-        snapshot: judge_snapshot(log, writes, &next),
+        snapshot: judge_snapshot(log, &begins, &commits, &writes, &next),
         conflict: judge_conflict(log, part),
         version: judge_version(log, clean, part, &next),
-        exact: judge_exact(log, clean, part, writes),
+        exact: judge_exact(log, clean, part, &writes),
     }
 }
 
@@ -61,9 +64,8 @@ pub fn judge(log: &[u16]) -> Judgement
 {
     let examined = examine(log);
     let checked = examined.checked;
-    let writes = examined.writes;
     match checked {
         Checked::Refused(number, place) => refused_alone(number, place),
-        Checked::Passed => judge_all(log, &writes),
+        Checked::Passed => judge_all(log, examined),
     }
 }

@@ -3,7 +3,6 @@ use crate::answers::Checked;
 use crate::answers::CleanAnswer;
 use crate::answers::Cleanness;
 use crate::answers::Fault;
-use crate::edges::committed_ones;
 use crate::edges::takes_part;
 use crate::leaving::clear;
 use crate::limits::Transaction;
@@ -105,7 +104,7 @@ pub fn clean(log: &[u16], work: &mut [u8]) -> CleanAnswer
         Checked::Refused(number, place) => CleanAnswer::Refused(number, place),
         Checked::Passed => {
             clear(work);
-            let part = committed_ones(log);
+            let part = admitted.part;
             CleanAnswer::Judged(judge_clean(log, &part))
         }
     }

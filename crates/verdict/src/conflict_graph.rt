@@ -2,7 +2,6 @@
 use crate::answers::Checked;
 use crate::answers::WitnessAnswer;
 use crate::answers::Witnessed;
-use crate::edges::committed_ones;
 use crate::edges::show;
 use crate::edges::takes_part;
 use crate::leaving::leave;
@@ -91,6 +90,9 @@ pub fn conflict(log: &[u16], work: &mut [u8], witness: &mut [u16]) -> WitnessAns
     let checked = admitted.checked;
     match checked {
         Checked::Refused(number, place) => WitnessAnswer::Refused(number, place),
-        Checked::Passed => leave(work, witness, judge_conflict(log, committed_ones(log))),
+        Checked::Passed => {
+            let part = admitted.part;
+            leave(work, witness, judge_conflict(log, part))
+        }
     }
 }

@@ -1,38 +1,13 @@
 // The edges of a graph of transactions, drawn in rows of marks, and what is shown of that graph.
 use crate::answers::Answer;
 use crate::answers::Witnessed;
-use crate::limits::Transaction;
-use crate::step::Step;
-use crate::step::step_at;
 use crate::walk::index;
 ghost use mathlib.Core.Path.{_≡_};
 ghost use Prim.Native.Nat.{_≤_};
 ghost use lib.ListN.{length};
 ghost use Rattle.graph.specs.Matrix.{takes-part, joined, row-words};
 ghost use Rattle.verdict.specs.Limits.{transactions};
-ghost use Rattle.verdict.specs.Refusal.{log-refusal};
-ghost use Rattle.verdict.specs.Inner.Marks.{Committed};
 ghost use Rattle.verdict.specs.Inner.Edges.{EdgeAdded, Showing};
-ghost use Rattle.verdict.specs.declared.answers.Checked.the-variants.{Passed};
-
-// For each transaction, whether it committed.
-pub(crate) fn committed_ones(log: &[u16]) -> [u64; graph::WORDS]
-    requires { ⌜ log-refusal (now log) ≡ Passed ⌝ }
-    ensures { λ r. ⌜ Committed (now (log .entry)) r ⌝ }
-{
-    let n = log.len() / 4;
-    let mut part = [0u64; graph::WORDS];
-    let mut i = 0;
-    while i < n {
-        let step = step_at(log, i);
-        if step.kind == Step::COMMIT {
-            let more = graph::with_vertex(part, index(step.tx));
-            part = more;
-        }
-        i += 1;
-    }
-    part
-}
 
 // Whether t committed, by the marks.
 pub(crate) fn takes_part(part: &[u64; graph::WORDS], t: u16) -> bool

@@ -7,7 +7,6 @@ use crate::answers::Exactness;
 use crate::answers::WitnessAnswer;
 use crate::answers::Witnessed;
 use crate::cleanness::judge_clean;
-use crate::edges::committed_ones;
 use crate::leaving::exact_without_members;
 use crate::leaving::leave;
 use crate::leaving::without_members;
@@ -25,6 +24,7 @@ ghost use Rattle.verdict.specs.Clean.{cleanness};
 ghost use Rattle.verdict.specs.Judgement.{Holds, ExactIs};
 ghost use Rattle.verdict.specs.Exact.{Exact};
 ghost use Rattle.verdict.specs.Call.{ExactCall};
+ghost use Rattle.verdict.specs.Inner.Checking.{Learned};
 ghost use Rattle.verdict.specs.Inner.Marks.{Committed};
 ghost use Rattle.verdict.specs.Inner.WriteTable.{WriteTable};
 ghost use Rattle.verdict.specs.declared.answers.Checked.the-variants.{Passed};
@@ -79,13 +79,13 @@ pub(crate) fn judge_exact(
     }
 }
 
-// The exact verdict of a well-formed log with few enough committed, by the marks of what each transaction writes.
-fn exact_by_marks(log: &[u16], found: Examined) -> Witnessed
-    requires { ⌜ (log-refusal (now log) ≡ Passed) × (committed-count (now log) ≤ most-searched) × WriteTable (now log) (found .writes) ⌝ }
+// The exact verdict of a well-formed log with few enough committed, by what the check learned.
+fn exact_learned(log: &[u16], found: Examined) -> Witnessed
+    requires { ⌜ (log-refusal (now log) ≡ Passed) × (committed-count (now log) ≤ most-searched) × Learned (now log) found ⌝ }
     ensures { λ r. ⌜ Holds (Exact transactions (now (log .entry))) r ⌝ }
 {
     let writes = found.writes;
-    let part = committed_ones(log);
+    let part = found.part;
     let clean = judge_clean(log, &part);
     judge_search(log, clean, part, &writes)
 }
@@ -103,5 +103,5 @@ pub fn exact(log: &[u16], work: &mut [u8], witness: &mut [u16]) -> WitnessAnswer
     if let Checked::Refused(number, place) = searched {
         return WitnessAnswer::Refused(number, place);
     }
-    leave(work, witness, exact_by_marks(log, admitted))
+    leave(work, witness, exact_learned(log, admitted))
 }

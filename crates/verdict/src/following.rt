@@ -5,7 +5,6 @@ use crate::answers::Cleanness;
 use crate::answers::WitnessAnswer;
 use crate::answers::Witnessed;
 use crate::cleanness::judge_clean;
-use crate::edges::committed_ones;
 use crate::leaving::leave;
 use crate::leaving::without_members;
 use crate::limits::Log;
@@ -27,12 +26,11 @@ ghost use Rattle.verdict.specs.Refusal.{_at_when_, _else-try_, log-refus
 ghost use Rattle.verdict.specs.Clean.{is-clean};
 ghost use Rattle.verdict.specs.Version.{version-edge};
 ghost use Rattle.verdict.specs.Call.{NextCall};
-ghost use Rattle.verdict.specs.Inner.Checking.{Examines};
+ghost use Rattle.verdict.specs.Inner.Checking.{Learned, Examines};
 ghost use Rattle.verdict.specs.Inner.Marks.{Committed};
 ghost use Rattle.verdict.specs.Inner.Edges.{Drawn};
 ghost use Rattle.verdict.specs.Inner.Following.{Split, Brings, Comes};
 ghost use Rattle.verdict.specs.Inner.NextWriters.{NextWriters};
-ghost use Rattle.verdict.specs.Inner.WriteTable.{WriteTable};
 ghost use Rattle.verdict.specs.declared.answers.Checked.the-variants.{Passed, Refused};
 
 // What comes after an order: 14 where it is not on the list, or the next order, or none.
@@ -139,13 +137,13 @@ fn in_version_graph(
     follow(log, &matrix, part, order)
 }
 
-// What comes after an order that is handed in with a well-formed log, by the marks of what each transaction writes.
+// What comes after an order that is handed in with a well-formed log, by what the check learned.
 fn after_order(log: &[u16], found: Examined, order: &[u16]) -> Following
-    requires { ⌜ (log-refusal (now log) ≡ Passed) × WriteTable (now log) (found .writes) ⌝ }
+    requires { ⌜ (log-refusal (now log) ≡ Passed) × Learned (now log) found ⌝ }
     ensures { λ r. ⌜ Comes (now (log .entry)) (now (order .entry)) r ⌝ }
 {
     let writes = found.writes;
-    let part = committed_ones(log);
+    let part = found.part;
     let clean = judge_clean(log, &part);
     if let Cleanness::Unclean(_) = clean {
         return not_listed();

@@ -9,63 +9,82 @@ use crate::limits::Transaction;
 use crate::step::Step;
 use crate::step::step_at;
 use crate::walk::index;
-use crate::walk::marked;
 use crate::walk::object_marked;
 ghost use mathlib.Core.Path.{_≡_};
-ghost use Prim.Native.Nat.{ℕ, suc, _≤_, _+_, _*_};
+ghost use Prim.Native.Nat.{ℕ, suc, _≤_, _<_, _+_, _*_};
 ghost use lib.ListN.{length};
-ghost use Rattle.words.specs.Tests.{_is_, _below_, _upto_, fails, if_then_else_};
-ghost use Rattle.verdict.specs.Limits.{transactions, objects, witness-entries, work-bytes};
-ghost use Rattle.verdict.specs.Log.{steps, tx, begun, ended};
+ghost use Rattle.words.specs.Tests.{_is_, fails, if_then_else_};
+ghost use Rattle.verdict.specs.Limits.{transactions, most-steps, witness-entries, work-bytes};
+ghost use Rattle.verdict.specs.Log.{steps, tx};
 ghost use Rattle.verdict.specs.Refusal.{_at_when_, _else-try_, tried, range-refusal, life-refusal, source-refusal, step-refusal, open-refusal, log-refusal};
-ghost use Rattle.verdict.specs.Inner.Marks.{Marked};
-ghost use Rattle.verdict.specs.Inner.Checking.{numbered, in-range, open-by-marks, InRange, Noted, Examines};
-ghost use Rattle.verdict.specs.Inner.WriteTable.{Written};
-ghost use Rattle.verdict.specs.declared.answers.Checked.the-variants.{Refused};
+ghost use Rattle.verdict.specs.Inner.Checking.{numbered, Allowing, in-range, open-by-lives, InRange, Lived, Noted, Examines};
+ghost use Rattle.verdict.specs.Inner.WriteTable.{Versions};
+ghost use Rattle.verdict.specs.declared.answers.Checked.the-variants.{Passed, Refused};
 
-// What the check finds: its answer, and for each transaction the marks of the objects that it writes, which are those of the whole log
-// where nothing turns it away.
+// What the check finds: its answer and, where nothing turns the log away, for each transaction the steps at which it begins and commits (the
+// number of steps, where it does not), whether it committed, and the marks of the objects that it writes.
 pub(crate) struct Examined {
     pub checked: Checked,
+    pub begins: [u16; Transaction::TABLE],
+    pub commits: [u16; Transaction::TABLE],
+    pub part: [u64; graph::WORDS],
     pub writes: [u64; Transaction::TABLE],
 }
 
-// Whether an object is as the kind allows it: any object, or only 0.
-fn object_fits(any: bool, x: u16) -> bool
-    ensures { λ r. ⌜ r ≡ (if any then x below objects else x is 0) ⌝ }
-{
-    if any {
-        let made = Object::of(x);
-        return match made {
-            MadeObject::Within(_) => true,
-            MadeObject::Beyond => false,
-        };
-    }
-    x == 0
+// What the kind of a step allows: how many objects, from 0 on, and the highest source.
+struct Ranges {
+    objects: u16,
+    source: u16,
 }
 
-// Whether a source is as the kind allows it: any transaction or 0, or only 0.
-fn source_fits(any: bool, s: u16) -> bool
-    ensures { λ r. ⌜ r ≡ (if any then s upto transactions else s is 0) ⌝ }
+// Any object and any source, or only 0; and no object at all where there is no such kind.
+fn ranges_of(k: u16) -> Ranges
+    ensures { λ r. ⌜ Allowing k r ⌝ }
 {
-    if any {
-        return s <= Transaction::LIMIT;
+    match k {
+        Step::BEGIN => Ranges {
+            objects: 1,
+            source: 0,
+        },
+        Step::READ => Ranges {
+            objects: Object::LIMIT,
+            source: Transaction::LIMIT,
+        },
+        Step::WRITE => Ranges {
+            objects: Object::LIMIT,
+            source: 0,
+        },
+        Step::COMMIT => Ranges {
+            objects: 1,
+            source: 0,
+        },
+        Step::ABORT => Ranges {
+            objects: 1,
+            source: 0,
+        },
+        _ => Ranges {
+            objects: 0,
+            source: 0,
+        },
     }
-    s == 0
 }
 
-// The first of 4, 5 and 6 that applies, by what the kind allows as object and source; 0 if none does.
-fn in_range(t: u16, x: u16, s: u16, any_object: bool, any_source: bool) -> u16
-    ensures { λ r. ⌜ ((place : ℕ) → numbered r place ≡ in-range place t x s «any_object» «any_source») ⌝ }
+// The first of 4, 5 and 6 that applies, by what the kind allows; 0 if none does.
+fn in_range(t: u16, x: u16, s: u16, allowed: Ranges) -> u16
+    ensures { λ r. ⌜ ((place : ℕ) → numbered r place ≡ in-range place t x s allowed) ⌝ }
 {
-    let made = Transaction::of(t);
-    let MadeTransaction::Within(_) = made else {
+    let transaction = Transaction::of(t);
+    let MadeTransaction::Within(_) = transaction else {
         return 4;
     };
-    if !object_fits(any_object, x) {
+    let object = Object::of(x);
+    let MadeObject::Within(_) = object else {
+        return 5;
+    };
+    if allowed.objects <= x {
         return 5;
     }
-    if !source_fits(any_source, s) {
+    if allowed.source < s {
         return 6;
     }
     0
@@ -75,79 +94,70 @@ fn in_range(t: u16, x: u16, s: u16, any_object: bool, any_source: bool) -> u16
 fn range_number(k: u16, t: u16, x: u16, s: u16) -> u16
     ensures { λ r. ⌜ ((place : ℕ) → numbered r place ≡ range-refusal place k t x s) ⌝ }
 {
-    match k {
-        Step::BEGIN => in_range(t, x, s, false, false),
-        Step::READ => in_range(t, x, s, true, true),
-        Step::WRITE => in_range(t, x, s, true, false),
-        Step::COMMIT => in_range(t, x, s, false, false),
-        Step::ABORT => in_range(t, x, s, false, false),
-        _ => 3,
+    let allowed = ranges_of(k);
+    if allowed.objects == 0 {
+        return 3;
     }
+    in_range(t, x, s, allowed)
 }
 
-// 7 or 8, where it applies to step i, by the marks of who began and who ended before it; else 0.
-fn life_number(
-    log: &[u16],
-    i: usize,
-    begins: &[u8; Transaction::TABLE],
-    ends: &[u8; Transaction::TABLE],
-) -> u16
-    requires { ⌜ (4 * i + 4 ≤ length (now log)) × (tx (now log) i ≤ transactions)
-        × Marked (suc transactions) (begun (now log) i) (now begins) × Marked (suc transactions) (ended (now log) i) (now ends) ⌝ }
+// How far a transaction has to have come before a step of this kind: a begin is its first, and it is open at any other.
+fn awaited(k: u16) -> u8
+    ensures { λ r. ⌜ r ≡ (if k is 1 then 0 else 1) ⌝ }
+{
+    if k == Step::BEGIN {
+        return 0;
+    }
+    1
+}
+
+// 7 or 8, where it applies to step i, by how far each transaction has come before it; else 0.
+fn life_number(log: &[u16], i: usize, lives: &[u8; Transaction::TABLE]) -> u16
+    requires { ⌜ (4 * i + 4 ≤ length (now log)) × (tx (now log) i ≤ transactions) × Lived (now log) i (now lives) ⌝ }
     ensures { λ r. ⌜ numbered r i ≡ life-refusal (now (log .entry)) i ⌝ }
 {
     let step = step_at(log, i);
-    let t = step.tx;
-    let begun = marked(begins, t);
-    if step.kind == Step::BEGIN {
-        if begun {
-            return 7;
-        }
+    let life = lives[index(step.tx)];
+    if life == awaited(step.kind) {
         return 0;
     }
-    if !begun {
-        return 8;
+    if step.kind == Step::BEGIN {
+        return 7;
     }
-    if marked(ends, t) {
-        return 8;
-    }
-    0
+    8
 }
 
-// 9 or 10, where it applies to step i, by the marks of who wrote what before it; else 0.
-fn source_number(log: &[u16], i: usize, writes: &[u64; Transaction::TABLE]) -> u16
-    requires { ⌜ (4 * i + 4 ≤ length (now log)) × InRange (now log) i × Written (now log) i (now writes) ⌝ }
+// Marks of every object.
+const EVERY_OBJECT: u64 = 18446744073709551615;
+
+// 9 or 10, where it applies to step i, by the versions that are there before it; else 0.
+fn source_number(log: &[u16], i: usize, versions: &[u64; Transaction::TABLE]) -> u16
+    requires { ⌜ (4 * i + 4 ≤ length (now log)) × InRange (now log) i × Versions (now log) i (now versions) ⌝ }
     ensures { λ r. ⌜ numbered r i ≡ source-refusal (now (log .entry)) i ⌝ }
 {
     let step = step_at(log, i);
-    let t = step.tx;
-    let x = step.obj;
-    let s = step.src;
     if step.kind != Step::READ {
         return 0;
     }
-    if s != 0 {
-        if !object_marked(writes, s, x) {
-            return 9;
-        }
+    if !object_marked(versions, step.src, step.obj) {
+        return 9;
     }
-    if s != t {
-        if object_marked(writes, t, x) {
+    if object_marked(versions, step.tx, step.obj) {
+        if step.src != step.tx {
             return 10;
         }
     }
     0
 }
 
-// The first of 3 to 10 that applies to step i, by the marks of the steps before it; 0 if none does.
+// The first of 3 to 10 that applies to step i, by what is noted of the steps before it; 0 if none does.
 fn step_number(
     log: &[u16],
     i: usize,
-    begins: &[u8; Transaction::TABLE],
-    ends: &[u8; Transaction::TABLE],
-    writes: &[u64; Transaction::TABLE],
+    lives: &[u8; Transaction::TABLE],
+    versions: &[u64; Transaction::TABLE],
 ) -> u16
-    requires { ⌜ (4 * i + 4 ≤ length (now log)) × Noted (now log) i (now begins) (now ends) (now writes) ⌝ }
+    requires { ⌜ (4 * i + 4 ≤ length (now log)) × Lived (now log) i (now lives) × Versions (now log) i (now versions) ⌝ }
     ensures { λ r. ⌜ numbered r i ≡ step-refusal (now (log .entry)) i ⌝ }
 {
     let step = step_at(log, i);
@@ -155,54 +165,57 @@ fn step_number(
     if range != 0 {
         return range;
     }
-    let life = life_number(log, i, begins, ends);
+    let life = life_number(log, i, lives);
     if life != 0 {
         return life;
     }
-    source_number(log, i, writes)
+    source_number(log, i, versions)
 }
 
-// The marks of step i, which no number turns away: who begins, who ends, who writes what.
+// Notes step i, which no number turns away: who begins, who ends, who writes what.
 fn note_step(
     log: &[u16],
     i: usize,
-    begins: &mut [u8; Transaction::TABLE],
-    ends: &mut [u8; Transaction::TABLE],
-    writes: &mut [u64; Transaction::TABLE],
+    lives: &mut [u8; Transaction::TABLE],
+    begins: &mut [u16; Transaction::TABLE],
+    commits: &mut [u16; Transaction::TABLE],
+    part: &mut [u64; graph::WORDS],
+    versions: &mut [u64; Transaction::TABLE],
 )
-    requires { ⌜ (4 * i + 4 ≤ length (now log)) × InRange (now log) i × Noted (now log) i (now begins) (now ends) (now writes) ⌝ }
-    ensures { λ _. ⌜ Noted (now (log .entry)) (i + 1) (now (begins .exit)) (now (ends .exit)) (now (writes .exit)) ⌝ }
+    requires { ⌜ (i < steps (now log)) × (steps (now log) ≤ most-steps) × (step-refusal (now log) i ≡ Passed)
+        × Noted (now log) i (now lives) (now begins) (now commits) (now part) (now versions) ⌝ }
+    ensures { λ _. ⌜ Noted (now (log .entry)) (i + 1) (now (lives .exit)) (now (begins .exit)) (now (commits .exit)) (now (part .exit)) (now (versions .exit)) ⌝ }
 {
     let step = step_at(log, i);
     let t = index(step.tx);
-    if step.kind == Step::BEGIN {
-        begins[t] = 1;
-        return;
-    }
     if step.kind == Step::WRITE {
         let x = index(step.obj);
-        writes[t] = bits::with_mark(writes[t], x);
+        versions[t] = bits::with_mark(versions[t], x);
         return;
     }
+    if step.kind == Step::READ {
+        return;
+    }
+    if step.kind == Step::BEGIN {
+        lives[t] = 1;
+        begins[t] = i as u16;
+        return;
+    }
+    lives[t] = 2;
     if step.kind == Step::COMMIT {
-        ends[t] = 1;
-        return;
-    }
-    if step.kind == Step::ABORT {
-        ends[t] = 1;
+        commits[t] = i as u16;
+        *part = graph::with_vertex(*part, t);
     }
 }
 
-// 11, at the lowest transaction begun and not ended, by the marks of all steps.
-fn check_open(begins: &[u8; Transaction::TABLE], ends: &[u8; Transaction::TABLE]) -> Checked
-    ensures { λ r. ⌜ r ≡ tried (suc transactions) (open-by-marks (now (begins .entry)) (now (ends .entry))) ⌝ }
+// 11, at the lowest transaction that is open, by how far each has come.
+fn check_open(lives: &[u8; Transaction::TABLE]) -> Checked
+    ensures { λ r. ⌜ r ≡ tried (suc transactions) (open-by-lives (now (lives .entry))) ⌝ }
 {
-    let mut t: u16 = 0;
-    while t <= Transaction::LIMIT {
-        if marked(begins, t) {
-            if !marked(ends, t) {
-                return Checked::Refused(11, t as usize);
-            }
+    let mut t: usize = 0;
+    while t < Transaction::TABLE {
+        if lives[t] == 1 {
+            return Checked::Refused(11, t);
         }
         t += 1;
     }
@@ -215,29 +228,48 @@ pub(crate) fn turned_away(number: u16, place: usize) -> Examined
 {
     Examined {
         checked: Checked::Refused(number, place),
+        begins: [0u16; Transaction::TABLE],
+        commits: [0u16; Transaction::TABLE],
+        part: [0u64; graph::WORDS],
         writes: [0u64; Transaction::TABLE],
     }
 }
 
-// 3 to 10, step by step, with marks carried along; and behind the last step 11.
+// 3 to 10, step by step, with what is learned carried along; and behind the last step 11.
 fn check_steps(log: &[u16], n: usize) -> Examined
-    requires { ⌜ n ≡ steps (now log) ⌝ }
+    requires { ⌜ (n ≡ steps (now log)) × (n ≤ most-steps) ⌝ }
     ensures { λ r. ⌜ Examines (now (log .entry)) (tried n (step-refusal (now (log .entry))) else-try tried (suc transactions) (open-refusal (now (log .entry)))) r ⌝ }
 {
-    let mut begins = [0u8; Transaction::TABLE];
-    let mut ends = [0u8; Transaction::TABLE];
+    let none = n as u16;
+    let mut lives = [0u8; Transaction::TABLE];
+    let mut begins = [none; Transaction::TABLE];
+    let mut commits = [none; Transaction::TABLE];
+    let mut part = [0u64; graph::WORDS];
     let mut writes = [0u64; Transaction::TABLE];
+    writes[0] = EVERY_OBJECT;
     let mut i = 0;
     while i < n {
-        let number = step_number(log, i, &begins, &ends, &writes);
+        let number = step_number(log, i, &lives, &writes);
         if number != 0 {
             return turned_away(number, i);
         }
-        note_step(log, i, &mut begins, &mut ends, &mut writes);
+        note_step(
+            log,
+            i,
+            &mut lives,
+            &mut begins,
+            &mut commits,
+            &mut part,
+            &mut writes,
+        );
         i += 1;
     }
+    writes[0] = 0;
     Examined {
-        checked: check_open(&begins, &ends),
+        checked: check_open(&lives),
+        begins,
+        commits,
+        part,
         writes,
     }
 }

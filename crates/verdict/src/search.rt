@@ -21,7 +21,7 @@ ghost use Rattle.words.specs.Lists.{entries};
 ghost use Rattle.verdict.specs.Judgement.{Holds};
 ghost use Rattle.verdict.specs.Exact.{Exact};
 ghost use Rattle.verdict.specs.Inner.Marks.{Committed};
-ghost use Rattle.verdict.specs.Inner.Placing.{needing, allows, may-follow, Needs, NeededOf, CommittedList, placed-of, OneMore, Placed, Searchable, Searched};
+ghost use Rattle.verdict.specs.Inner.Placing.{needing, allows, may-follow, Needs, NeededOf, CommittedList, placed-of, OneMore, LastAfter, Placed, Searchable, Searched};
 ghost use Rattle.verdict.specs.Inner.WriteTable.{WriteTable};
 ghost use Rattle.verdict.specs.declared.answers.Checked.the-variants.{Passed};
 
@@ -164,55 +164,59 @@ fn fits(need: &[u16; Transaction::PAIRS], marks: u64, last: &[u16; Object::TABLE
     true
 }
 
-// Where a search stands: the places of the list that are left, as marks, the last writer of each object, and the order, of which the first `at` are placed.
+// Where a search stands: the places of the list that are left, as marks, and the order, of which the first `at` are placed.
 struct Run {
     free: u64,
-    last: [u16; Object::TABLE],
     placed: [u16; Transaction::SEARCHED],
     at: usize,
 }
 
-// Whether the one at place i of the list is left and would find what it needs.
+// Whether the one at place i of the list is left and would find what it needs, by the last writer of each object.
 fn may_follow(
     need: &[u16; Transaction::PAIRS],
     ones: &[u16; Transaction::SEARCHED],
     asks: &[u64; Transaction::SEARCHED],
     run: Run,
+    last: &[u16; Object::TABLE],
     i: usize,
 ) -> bool
     requires { ⌜ (i < most-searched) × (getD (now ones) i 0 ≤ transactions) × NeededOf (now need) (getD (now ones) i 0) (getD (now asks) i 0) ⌝ }
-    ensures { λ r. ⌜ r ≡ may-follow (now (need .entry)) (now (ones .entry)) run i ⌝ }
+    ensures { λ r. ⌜ r ≡ may-follow (now (need .entry)) (now (ones .entry)) run (now (last .entry)) i ⌝ }
 {
     if !bits::has_mark(run.free, i) {
         return false;
     }
-    let last = run.last;
-    fits(need, asks[i], &last, ones[i])
+    fits(need, asks[i], last, ones[i])
 }
 
 // The run with the one at place i of the list placed next.
-fn with_placed(
-    writes: &[u64; Transaction::TABLE],
-    ones: &[u16; Transaction::SEARCHED],
-    run: Run,
-    i: usize,
-) -> Run
-    requires { ⌜ (i < most-searched) × (getD (now ones) i 0 ≤ transactions) × (run .at < most-searched) ⌝ }
-    ensures { λ r. ⌜ OneMore (now (writes .entry)) (getD (now (ones .entry)) i 0) i run r ⌝ }
+fn with_placed(ones: &[u16; Transaction::SEARCHED], run: Run, i: usize) -> Run
+    requires { ⌜ (i < most-searched) × (run .at < most-searched) ⌝ }
+    ensures { λ r. ⌜ OneMore (getD (now (ones .entry)) i 0) i run r ⌝ }
 {
-    let t = ones[i];
     let at = run.at;
     let free = bits::without_mark(run.free, i);
-    let before = run.last;
-    let last = bits::put_marked(before, writes[index(t)], t);
     let mut placed = run.placed;
-    placed[at] = t;
+    placed[at] = ones[i];
     Run {
         free,
-        last,
         placed,
         at: at + 1,
     }
+}
+
+// The last writer of each object becomes the one at place i of the list, where that one writes it.
+fn note_last(
+    last: &mut [u16; Object::TABLE],
+    writes: &[u64; Transaction::TABLE],
+    ones: &[u16; Transaction::SEARCHED],
+    i: usize,
+)
+    requires { ⌜ (length (now last) ≡ objects) × (i < most-searched) × (getD (now ones) i 0 ≤ transactions) ⌝ }
+    ensures { λ _. ⌜ LastAfter (now (writes .entry)) (getD (now (ones .entry)) i 0) (now (last .entry)) (now (last .exit)) ⌝ }
+{
+    let t = ones[i];
+    bits::put_marked(last, writes[index(t)], t);
 }
 
 // What a search finds: whether there is an order, and the order.
@@ -229,16 +233,19 @@ fn place(
     ones: &[u16; Transaction::SEARCHED],
     asks: &[u64; Transaction::SEARCHED],
     run: Run,
+    last: &[u16; Object::TABLE],
     n: usize,
 ) -> Search
-    requires { ⌜ Searchable (now log) (now need) (now writes) (now ones) (now asks) n × Placed (now log) (now ones) n run ⌝ }
+    requires { ⌜ Searchable (now log) (now need) (now writes) (now ones) (now asks) n × Placed (now log) (now ones) n run (now last) ⌝ }
     ensures { λ r. ⌜ Searched (now (log .entry)) (placed-of run) n (r .found) (r .order) ⌝ }
 {
     let mut i = 0;
     while i < n {
-        if may_follow(need, ones, asks, run, i) {
-            let next = with_placed(writes, ones, run, i);
-            let behind = place(log, need, writes, ones, asks, next, n);
+        if may_follow(need, ones, asks, run, last, i) {
+            let next = with_placed(ones, run, i);
+            let mut after = *last;
+            note_last(&mut after, writes, ones, i);
+            let behind = place(log, need, writes, ones, asks, next, &after, n);
             let found = behind.found;
             if found {
                 return behind;
@@ -289,11 +296,10 @@ pub(crate) fn find_order(
     let placed = [0u16; Transaction::SEARCHED];
     let run = Run {
         free: EVERY_PLACE,
-        last,
         placed,
         at: 0,
     };
-    let result = place(log, &need, writes, &ones, &asks, run, left);
+    let result = place(log, &need, writes, &ones, &asks, run, &last, left);
     let found = result.found;
     if !found {
         return without_members(Answer::None);

@@ -10,7 +10,6 @@ use crate::refusal::Examined;
 use crate::refusal::admit;
 use crate::step::Step;
 use crate::step::step_at;
-use crate::tables::first_steps;
 use crate::tables::next_of;
 use crate::tables::next_writers;
 use crate::walk::index;
@@ -25,6 +24,7 @@ ghost use Rattle.verdict.specs.Log.{steps, kind, tx};
 ghost use Rattle.verdict.specs.Refusal.{log-refusal};
 ghost use Rattle.verdict.specs.Snapshot.{last-committed, wanted, wrong-read, clash, snapshot-verdict};
 ghost use Rattle.verdict.specs.Call.{SnapshotCall};
+ghost use Rattle.verdict.specs.Inner.Checking.{Learned};
 ghost use Rattle.verdict.specs.Inner.Clashes.{LastCommits, CommitNoted, FirstClash};
 ghost use Rattle.verdict.specs.Inner.Marks.{FirstSteps};
 ghost use Rattle.verdict.specs.Inner.NextWriters.{NextWriters};
@@ -171,7 +171,7 @@ fn note_commit(
     let t = step.tx;
     let mine = writes[index(t)];
     let since = bits::marked_above(last, mine, step_of(begins, t));
-    *last = bits::put_marked(*last, mine, j as u16);
+    bits::put_marked(last, mine, j as u16);
     if since {
         return t;
     }
@@ -226,43 +226,46 @@ fn first_clash(
     }
 }
 
-// The snapshot verdict of a well-formed log, by what each transaction writes and by the writers of the next versions.
+// The snapshot verdict of a well-formed log, by where each transaction begins and commits, what it writes, and the writers of the next versions.
 pub(crate) fn judge_snapshot(
     log: &[u16],
+    begins: &[u16; Transaction::TABLE],
+    commits: &[u16; Transaction::TABLE],
     writes: &[u64; Transaction::TABLE],
     next: &[u8; Transaction::PAIRS],
 ) -> Snapshot
-    requires { ⌜ (log-refusal (now log) ≡ Passed) × WriteTable (now log) (now writes) × NextWriters (now log) (now next) ⌝ }
+    requires { ⌜ (log-refusal (now log) ≡ Passed) × FirstSteps (now log) 1 (now begins) × FirstSteps (now log) 4 (now commits)
+        × WriteTable (now log) (now writes) × NextWriters (now log) (now next) ⌝ }
     ensures { λ r. ⌜ r ≡ snapshot-verdict transactions (now (log .entry)) ⌝ }
 {
     let n = log.len() / 4;
-    let begins = first_steps(log, Step::BEGIN);
-    let commits = first_steps(log, Step::COMMIT);
-    let k = first_wrong(log, &begins, &commits, next);
-    let clash = first_clash(log, writes, &begins, &commits, k);
+    let k = first_wrong(log, begins, commits, next);
+    let clash = first_clash(log, writes, begins, commits, k);
     let j = clash.step;
     let p = clash.partner;
     if j < k {
         return Snapshot::Write(j, p);
     }
     if k < n {
-        return Snapshot::Read(k, wanted(log, writes, &begins, k));
+        return Snapshot::Read(k, wanted(log, writes, begins, k));
     }
     Snapshot::Yes
 }
 
-// The snapshot verdict of a well-formed log, by the marks of what each transaction writes. A log without steps needs no tables.
-fn snapshot_by_marks(log: &[u16], found: Examined) -> Snapshot
-    requires { ⌜ (log-refusal (now log) ≡ Passed) × WriteTable (now log) (found .writes) ⌝ }
+// The snapshot verdict of a well-formed log, by what the check learned. A log without steps needs no tables.
+fn snapshot_learned(log: &[u16], found: Examined) -> Snapshot
+    requires { ⌜ (log-refusal (now log) ≡ Passed) × Learned (now log) found ⌝ }
     ensures { λ r. ⌜ r ≡ snapshot-verdict transactions (now (log .entry)) ⌝ }
 {
     if log.len() == 0 {
         return Snapshot::Yes;
     }
+    let begins = found.begins;
+    let commits = found.commits;
     let writes = found.writes;
     let mut next = [0u8; Transaction::PAIRS];
     next_writers(log, &writes, &mut next);
-    judge_snapshot(log, &writes, &next)
+    judge_snapshot(log, &begins, &commits, &writes, &next)
 }
 
 // The snapshot verdict: yes, or the lowest wrong step.
@@ -275,7 +278,7 @@ pub fn snapshot(log: &[u16], work: &mut [u8]) -> SnapshotAnswer
         Checked::Refused(number, place) => SnapshotAnswer::Refused(number, place),
         Checked::Passed => {
             clear(work);
-            SnapshotAnswer::Judged(snapshot_by_marks(log, admitted))
+            SnapshotAnswer::Judged(snapshot_learned(log, admitted))
         }
     }
 }

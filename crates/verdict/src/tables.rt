@@ -1,4 +1,4 @@
-// Tables of what a log tells, each filled by one walk: where transactions begin and commit, and who writes the next versions.
+// The table of who writes the next versions, filled by one walk.
 use crate::limits::Object;
 use crate::limits::Transaction;
 use crate::step::Step;
@@ -9,29 +9,9 @@ ghost use Prim.Native.Nat.{_+_, _*_, _≤_, _<_};
 ghost use lib.ListN.{length, getD, replicate};
 ghost use Rattle.verdict.specs.Limits.{transactions, objects};
 ghost use Rattle.verdict.specs.Refusal.{log-refusal};
-ghost use Rattle.verdict.specs.Inner.Marks.{FirstSteps};
 ghost use Rattle.verdict.specs.Inner.NextWriters.{NextWriters, PutBefore};
 ghost use Rattle.verdict.specs.Inner.WriteTable.{WriteTable};
 ghost use Rattle.verdict.specs.declared.answers.Checked.the-variants.{Passed};
-
-// For each transaction, its first step of kind k, or the number of steps where there is none.
-pub(crate) fn first_steps(log: &[u16], k: u16) -> [u16; Transaction::TABLE]
-    requires { ⌜ log-refusal (now log) ≡ Passed ⌝ }
-    ensures { λ r. ⌜ FirstSteps (now (log .entry)) k r ⌝ }
-{
-    let n = (log.len() / 4) as u16;
-    let mut table = [n; Transaction::TABLE];
-    let mut i = n;
-    while 0 < i {
-        i -= 1;
-        let step = step_at(log, i as usize);
-        if step.kind == k {
-            let t = index(step.tx);
-            table[t] = i;
-        }
-    }
-    table
-}
 
 // Puts t before the writers that are to come, for each object that is marked.
 fn put_before(table: &mut [u8; Transaction::PAIRS], marks: u64, t: usize)

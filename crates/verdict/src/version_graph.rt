@@ -6,7 +6,6 @@ use crate::answers::Cleanness;
 use crate::answers::WitnessAnswer;
 use crate::answers::Witnessed;
 use crate::cleanness::judge_clean;
-use crate::edges::committed_ones;
 use crate::edges::join;
 use crate::edges::show;
 use crate::edges::takes_part;
@@ -33,7 +32,7 @@ ghost use Rattle.verdict.specs.Inner.Marks.{Committed};
 ghost use Rattle.verdict.specs.Inner.Edges.{no-edge, EdgesAdded, Drawn};
 ghost use Rattle.verdict.specs.Inner.NextWriters.{NextWriters};
 ghost use Rattle.verdict.specs.Inner.VersionEdges.{versions-until};
-ghost use Rattle.verdict.specs.Inner.WriteTable.{WriteTable};
+ghost use Rattle.verdict.specs.Inner.Checking.{Learned};
 ghost use Rattle.verdict.specs.declared.answers.Checked.the-variants.{Passed};
 
 // The edges of a step that reads or writes version v of x: from v's writer to t, and from t to the writer of the version after it.
@@ -113,13 +112,13 @@ pub(crate) fn judge_version(
     show(&matrix, part)
 }
 
-// The version verdict of a well-formed log, by the marks of what each transaction writes.
-fn version_by_marks(log: &[u16], found: Examined) -> Witnessed
-    requires { ⌜ (log-refusal (now log) ≡ Passed) × WriteTable (now log) (found .writes) ⌝ }
+// The version verdict of a well-formed log, by what the check learned.
+fn version_learned(log: &[u16], found: Examined) -> Witnessed
+    requires { ⌜ (log-refusal (now log) ≡ Passed) × Learned (now log) found ⌝ }
     ensures { λ r. ⌜ Holds (Version transactions (now (log .entry))) r ⌝ }
 {
     let writes = found.writes;
-    let part = committed_ones(log);
+    let part = found.part;
     let clean = judge_clean(log, &part);
     let mut next = [0u8; Transaction::PAIRS];
     next_writers(log, &writes, &mut next);
@@ -134,6 +133,6 @@ pub fn version(log: &[u16], work: &mut [u8], witness: &mut [u16]) -> WitnessAnsw
     let checked = admitted.checked;
     match checked {
         Checked::Refused(number, place) => WitnessAnswer::Refused(number, place),
-        Checked::Passed => leave(work, witness, version_by_marks(log, admitted)),
+        Checked::Passed => leave(work, witness, version_learned(log, admitted)),
     }
 }

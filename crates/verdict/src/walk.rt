@@ -5,7 +5,6 @@ use crate::step::step_at;
 ghost use mathlib.Core.Path.{_≡_};
 ghost use Prim.Native.Nat.{_≤_};
 ghost use lib.ListN.{getD};
-ghost use Rattle.words.specs.Tests.{_is_, fails};
 ghost use Rattle.bits.specs.Word.{marked};
 ghost use Rattle.verdict.specs.Limits.{transactions};
 ghost use Rattle.verdict.specs.Log.{committed-count};
@@ -15,15 +14,6 @@ pub(crate) fn index(x: u16) -> usize
     ensures { λ r. ⌜ r ≡ x ⌝ }
 {
     x as usize
-}
-
-// Whether the mark of t is set.
-pub(crate) fn marked(marks: &[u8; Transaction::TABLE], t: u16) -> bool
-    requires { ⌜ t ≤ transactions ⌝ }
-    ensures { λ r. ⌜ r ≡ fails (getD (now (marks .entry)) t 0 is 0) ⌝ }
-{
-    let at = index(t);
-    marks[at] != 0
 }
 
 // How many transactions committed: the commits in the log.

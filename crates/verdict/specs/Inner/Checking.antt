@@ -1,16 +1,18 @@
--- The check of a log, walked once with marks: which number applies to a step, and what the marks say before it.
+-- The check of a log, walked once: which number applies to a step, what is noted before it, and what is learned in the end.
 use mathlib.Core.Path.{_≡_}
-use mathlib.Core.Bool.{Bool}
+use mathlib.Core.Bool.{true, false}
 use mathlib.Core.List.{List}
-use Prim.Native.Nat.{ℕ, suc}
+use Prim.Native.Nat.{ℕ, suc, _≤_, _<_}
 use lib.ListN.{length, getD}
-use Rattle.words.specs.Tests.{_is_, _below_, _upto_, _and_, fails, if_then_else_}
+use Rattle.words.specs.Tests.{_is_, _below_, _upto_, _and_, fails, if_then_else_, some}
+use Rattle.graph.specs.Matrix.{takes-part}
 use Rattle.verdict.specs.Limits.{transactions, objects}
-use Rattle.verdict.specs.Log.{kind, tx, obj, src, begun, ended}
-use Rattle.verdict.specs.Refusal.{_at_when_, _else-try_, range-refusal}
-use Rattle.verdict.specs.Inner.Marks.{Marked}
-use Rattle.verdict.specs.Inner.WriteTable.{Written, WriteTable}
+use Rattle.verdict.specs.Log.{steps, kind, tx, obj, src, begun, ended}
+use Rattle.verdict.specs.Refusal.{_at_when_, _else-try_, object-allowed, source-allowed, range-refusal}
+use Rattle.verdict.specs.Inner.Marks.{does, Committed, FirstSteps}
+use Rattle.verdict.specs.Inner.WriteTable.{Versions, WriteTable}
 use Rattle.verdict.specs.declared.refusal.Examined.{Examined}
+use Rattle.verdict.specs.declared.refusal.Ranges.{Ranges}
 use Rattle.verdict.specs.declared.answers.Checked.{Checked}
 use Rattle.verdict.specs.declared.answers.Checked.the-variants.{Passed}
 
@@ -18,32 +20,62 @@ use Rattle.verdict.specs.declared.answers.Checked.the-variants.{Passed}
 unfoldable pub numbered : ℕ → ℕ → Checked
 numbered n place = n at place when fails (n is 0)
 
--- 4 to 6, by whether any object and any source is allowed, or only 0
-unfoldable pub in-range : ℕ → ℕ → ℕ → ℕ → Bool → Bool → Checked
-in-range place t x s any-object any-source =
+-- what a kind allows: the objects and the source of a step of kind k; no object where there is no such kind
+pub record Allowing (k : ℕ) (r : Ranges) : Type 0 where
+  pub kinds : fails (r .objects is 0) ≡ (1 upto k and k upto 5)
+  pub object : (x : ℕ) → (1 upto k and k upto 5) ≡ true → (x below objects and x below (r .objects)) ≡ object-allowed k x
+  pub source : (s : ℕ) → (1 upto k and k upto 5) ≡ true → (s upto (r .source)) ≡ source-allowed k s
+
+-- 4 to 6, by what the kind allows
+unfoldable pub in-range : ℕ → ℕ → ℕ → ℕ → Ranges → Checked
+in-range place t x s r =
     4 at place when fails (1 upto t and t upto transactions)
-    else-try 5 at place when fails (if any-object then x below objects else x is 0)
-    else-try 6 at place when fails (if any-source then s upto transactions else s is 0)
+    else-try 5 at place when fails (x below objects and x below (r .objects))
+    else-try 6 at place when fails (s upto (r .source))
 
--- 11 for one transaction, by the marks of who has begun and who has ended
-unfoldable pub open-by-marks : (begins ends : List ℕ) → ℕ → Checked
-open-by-marks begins ends t = 11 at t when fails (getD begins t 0 is 0) and getD ends t 0 is 0
+-- 11 for one transaction, by how far each has come
+unfoldable pub open-by-lives : (lives : List ℕ) → ℕ → Checked
+open-by-lives lives t = 11 at t when getD lives t 0 is 1
 
-module _ (log : List ℕ) (i : ℕ) where
-  -- none of 3 to 6 applies to step i
-  unfoldable pub InRange : Type 0
-  InRange = range-refusal i (kind log i) (tx log i) (obj log i) (src log i) ≡ Passed
+module _ (log : List ℕ) where
+  -- how far t has come before step i: 0 not begun, 1 open, 2 ended
+  unfoldable pub life : ℕ → ℕ → ℕ
+  life i t = if begun log i t then (if ended log i t then 2 else 1) else 0
 
-  -- the marks say who has begun before step i, who has ended, and who wrote what
-  pub record Noted (begins ends writes : List ℕ) : Type 0 where
-    pub has-begun : Marked (suc transactions) (begun log i) begins
-    pub has-ended : Marked (suc transactions) (ended log i) ends
-    pub has-written : Written log i writes
-    pub begins-size : length begins ≡ suc transactions
-    pub ends-size : length ends ≡ suc transactions
-    pub writes-size : length writes ≡ suc transactions
+  -- the table has, for each transaction, its one step of kind k before step i, or the number of steps
+  pub record StepsBefore (k i : ℕ) (table : List ℕ) : Type 0 where
+    pub size : length table ≡ suc transactions
+    pub none : (t : ℕ) → t ≤ transactions → some i (does log k t) ≡ false → getD table t 0 ≡ steps log
+    pub one : (t : ℕ) → t ≤ transactions → (j : ℕ) → j < i → does log k t j ≡ true → getD table t 0 ≡ j
 
--- what is found of a log: its refusal, and the marks of what each transaction writes where there is none
-pub record Examines (log : List ℕ) (refusal : Checked) (r : Examined) : Type 0 where
-  pub says : r .checked ≡ refusal
-  pub marks : refusal ≡ Passed → WriteTable log (r .writes)
+  module _ (i : ℕ) where
+    -- none of 3 to 6 applies to step i
+    unfoldable pub InRange : Type 0
+    InRange = range-refusal i (kind log i) (tx log i) (obj log i) (src log i) ≡ Passed
+
+    -- the table says how far each transaction has come before step i; none ends that has not begun
+    pub record Lived (lives : List ℕ) : Type 0 where
+      pub size : length lives ≡ suc transactions
+      pub far : (t : ℕ) → t ≤ transactions → getD lives t 0 ≡ life i t
+      pub after-begin : (t : ℕ) → ended log i t ≡ true → begun log i t ≡ true
+
+    -- what is noted before step i: how far each has come, where each began and committed, who committed, and which versions are there
+    pub record Noted (lives begins commits part writes : List ℕ) : Type 0 where
+      pub has-lived : Lived lives
+      pub has-begun : StepsBefore 1 i begins
+      pub has-committed : StepsBefore 4 i commits
+      pub who-committed : (t : ℕ) → takes-part transactions part t ≡ some i (does log 4 t)
+      pub has-written : Versions log i writes
+      pub writes-size : length writes ≡ suc transactions
+
+  -- what the check of a well-formed log learns
+  pub record Learned (r : Examined) : Type 0 where
+    pub begin-steps : FirstSteps log 1 (r .begins)
+    pub commit-steps : FirstSteps log 4 (r .commits)
+    pub who : Committed log (r .part)
+    pub marks : WriteTable log (r .writes)
+
+  -- what is found of a log: its refusal, and what is learned where there is none
+  pub record Examines (refusal : Checked) (r : Examined) : Type 0 where
+    pub says : r .checked ≡ refusal
+    pub learned : refusal ≡ Passed → Learned r

@@ -3,7 +3,7 @@ use mathlib.Core.Path.{_≡_}
 use mathlib.Core.Bool.{Bool, false}
 use mathlib.Core.List.{List}
 use Prim.Native.Nat.{ℕ, suc, _+_, _≤_, _<_}
-use lib.ListN.{getD}
+use lib.ListN.{length, getD}
 use Rattle.words.specs.Tests.{_below_, _and_, some, lowest}
 use Rattle.verdict.specs.Limits.{transactions, objects}
 use Rattle.verdict.specs.Log.{kind, tx, committed, commit-step, commits-writer}
@@ -16,6 +16,7 @@ module _ (log : List ℕ) where
 
   -- the table has, for each object, a number that is above b just where one of the first j steps, later than b, commits a writer of it
   pub record LastCommits (j : ℕ) (table : List ℕ) : Type 0 where
+    pub size : length table ≡ objects
     pub entry : (x : ℕ) → x < objects → (b : ℕ) → (b below getD table x 0) ≡ some j (λ i. b below i and commits-writer log x i)
 
   -- step j is noted in the table of the last commits, and t is who commits there, or 0 where no clash can be

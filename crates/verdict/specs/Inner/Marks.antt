@@ -1,17 +1,13 @@
--- Marks that say of each number whether it passes, and tables of first steps.
+-- Marks that say who committed, and tables of first steps.
 use mathlib.Core.Path.{_≡_}
 use mathlib.Core.Bool.{Bool}
 use mathlib.Core.List.{List}
-use Prim.Native.Nat.{ℕ, _≤_, _<_}
+use Prim.Native.Nat.{ℕ, _≤_}
 use lib.ListN.{getD}
-use Rattle.words.specs.Tests.{_is_, _and_, fails, lowest}
+use Rattle.words.specs.Tests.{_is_, _and_, lowest}
 use Rattle.graph.specs.Matrix.{takes-part}
 use Rattle.verdict.specs.Limits.{transactions}
 use Rattle.verdict.specs.Log.{steps, kind, tx, committed}
-
--- the marks say of each number below n whether it passes
-pub record Marked (n : ℕ) (passes : ℕ → Bool) (marks : List ℕ) : Type 0 where
-  pub mark : (c : ℕ) → c < n → fails (getD marks c 0 is 0) ≡ passes c
 
 module _ (log : List ℕ) where
   -- the marks say who committed; those of transaction 1 come first

@@ -3,7 +3,7 @@ use mathlib.Core.Path.{_≡_}
 use mathlib.Core.Bool.{Bool, true, false}
 use mathlib.Core.List.{List, [], _∷_, _++_}
 use Prim.Native.Nat.{ℕ, zero, suc, _+_, _*_, _≤_, _<_}
-use lib.ListN.{getD, take}
+use lib.ListN.{length, getD, take}
 use Rattle.words.specs.Tests.{_is_, _and_, _or_, fails, if_then_else_, every, count}
 use Rattle.words.specs.Lists.{member, all, distinct}
 use Rattle.words.specs.First.{dictionary, First, Never}
@@ -33,20 +33,24 @@ allows e v = e is 0 or e is suc v
 pub record NeededOf (need : List ℕ) (t marks : ℕ) : Type 0 where
   pub mark : (x : ℕ) → x < objects → marked marks x ≡ fails (getD need (t * objects + x) 0 is 0)
 
--- the one at place i of the list is left and would find what it needs
-unfoldable pub may-follow : List ℕ → List ℕ → Run → ℕ → Bool
-may-follow need ones run i = marked (run .free) i and every objects (λ x. allows (getD need (getD ones i 0 * objects + x) 0) (getD (run .last) x 0))
+-- the one at place i of the list is left and would find what it needs, by the last writer of each object
+unfoldable pub may-follow : List ℕ → List ℕ → Run → List ℕ → ℕ → Bool
+may-follow need ones run last i = marked (run .free) i and every objects (λ x. allows (getD need (getD ones i 0 * objects + x) 0) (getD last x 0))
 
 -- those that are placed
 abbrev pub placed-of : Run → List ℕ
 placed-of run = take (run .at) (run .placed)
 
 -- the run with t placed next, which stands at place i of the list
-pub record OneMore (writes : List ℕ) (t i : ℕ) (run next : Run) : Type 0 where
+pub record OneMore (t i : ℕ) (run next : Run) : Type 0 where
   pub behind : placed-of next ≡ placed-of run ++ t ∷ []
   pub more : next .at ≡ run .at + 1
   pub taken : next .free ≡ less (run .free) i
-  pub written : (x : ℕ) → x < objects → getD (next .last) x 0 ≡ (if marked (getD writes t 0) x then t else getD (run .last) x 0)
+
+-- the last writers when t has run too: t of what it writes, the one before of every other object
+pub record LastAfter (writes : List ℕ) (t : ℕ) (last after : List ℕ) : Type 0 where
+  pub size : length after ≡ length last
+  pub each : (x : ℕ) → x < objects → getD after x 0 ≡ (if marked (getD writes t 0) x then t else getD last x 0)
 
 module _ (log : List ℕ) where
   -- step i is a judged read of x by t from another
@@ -90,11 +94,12 @@ module _ (log : List ℕ) where
     pub different : distinct p ≡ true
     pub members : all (committed log) p ≡ true
     pub right : (i : ℕ) → i < steps log → judged-other log i ≡ true → member (tx log i) p ≡ true → finds log (obj log i) (tx log i) 0 p ≡ src log i
+    pub size : length last ≡ objects
     pub writers : (x : ℕ) → x < objects → getD last x 0 ≡ ran x 0 p
 
   -- .. and of the n on the list those are marked that are left
-  pub record Placed (ones : List ℕ) (n : ℕ) (run : Run) : Type 0 where
-    pub so-far : Replayed (placed-of run) (run .last)
+  pub record Placed (ones : List ℕ) (n : ℕ) (run : Run) (last : List ℕ) : Type 0 where
+    pub so-far : Replayed (placed-of run) last
     pub left : (i : ℕ) → i < n → marked (run .free) i ≡ fails (member (getD ones i 0) (placed-of run))
     pub fills : run .at + count n (marked (run .free)) ≡ n
 

@@ -12,10 +12,10 @@ use Rattle.bits.proofs.table.put_marked.Statement.{statement}
 use Rattle.bits.proofs.table.put_marked.Tie as tie
 
 abbrev Inv-loop : tie.InvT-loop
-Inv-loop marks v next₀ left₀ next left = MarksPut next₀ marks v left next
+Inv-loop table₀ marks v left₀ table left = MarksPut table₀ marks v left table
 
 abbrev μ-loop : tie.MeasureT-loop
-μ-loop marks v next₀ left₀ next left = count 64 (marked left)
+μ-loop table₀ marks v left₀ table left = count 64 (marked left)
 
 -- the head of the loop, from where the lowest mark is known
 abbrev head : tie.After-lowest-mark Inv-loop μ-loop → tie.At-loop Inv-loop μ-loop
@@ -26,7 +26,7 @@ this : (c : tie.After-lowest-mark Inv-loop μ-loop) → (c .lowest-mark .result 
 this c = turn (head c .loop .left) (sym (c .before .before .any-mark .ensures) ∙ c .before .if1 .taken) (c .lowest-mark .ensures)
 
 loop-holds : tie.Need-loop-holds Inv-loop μ-loop
-loop-holds c = put-first _ _ (search needs)
+loop-holds c = put-first _ _ _
 
 any-mark-requires : tie.Need-any-mark-requires Inv-loop μ-loop
 any-mark-requires c κs = search needs
@@ -34,11 +34,11 @@ any-mark-requires c κs = search needs
 lowest-mark-requires : tie.Need-lowest-mark-requires Inv-loop μ-loop
 lowest-mark-requires c κs = search needs
 
-mul-next : tie.Need-mul-next Inv-loop μ-loop
-mul-next c = omega (arith, this c .0)
+mul-table : tie.Need-mul-table Inv-loop μ-loop
+mul-table c = omega (arith, this c .0)
 
-array-write-next : tie.Need-array-write-next Inv-loop μ-loop
-array-write-next c = this c .0
+element-write-table : tie.Need-element-write-table Inv-loop μ-loop
+element-write-table c = this c .0
 
 without-mark-requires : tie.Need-without-mark-requires Inv-loop μ-loop
 without-mark-requires c κs = search needs
@@ -61,8 +61,8 @@ put-marked-spec =
     loop-holds
     any-mark-requires
     lowest-mark-requires
-    mul-next
-    array-write-next
+    mul-table
+    element-write-table
     without-mark-requires
     loop-less
     loop-again

@@ -6,13 +6,14 @@ use Rattle.verdict.proofs.all_verdicts.judge_all.Tie as tie
 
 -- the clean verdict, and the snapshot verdict
 abbrev clean : tie.After-judge-snapshot → tie.After-judge-clean
-clean c = c .before .before
+clean c = c .before .before .before .before .before
 
 abbrev snapshot : tie.After-judge-exact → tie.After-judge-snapshot
-snapshot c = c .before .before .before .before
+snapshot c = c .before .before .before .before .before
 
-committed-ones-requires : tie.Need-committed-ones-requires
-committed-ones-requires c κs = search needs
+-- the entry
+abbrev entry : tie.After-judge-clean → tie.Start
+entry c = c .before .before .before .before .before .before .before .before .before .before
 
 next-writers-requires : tie.Need-next-writers-requires
 next-writers-requires c κs = search needs
@@ -30,7 +31,10 @@ judge-version-requires : tie.Need-judge-version-requires
 judge-version-requires c κs = search needs
 
 judge-exact-requires : tie.Need-judge-exact-requires
-judge-exact-requires c κs = search needs
+judge-exact-requires c κs =
+    let judged = clean (c .before .before .before .before) in
+    let q = entry judged .pre in
+    (q .0, judged .judge-clean .ensures, q .1 .who, q .1 .marks)
 
 returns : tie.Need-returns
 returns c =
@@ -38,8 +42,8 @@ returns c =
       passed = refl;
       clean-is = clean (snapshot c) .judge-clean .ensures;
       snapshot-is = snapshot c .judge-snapshot .ensures;
-      conflict-is = c .before .before .before .judge-conflict .ensures;
-      version-is = c .before .judge-version .ensures;
+      conflict-is = c .before .before .before .before .judge-conflict .ensures;
+      version-is = c .before .before .judge-version .ensures;
       exact-is = c .judge-exact .ensures;
     }
 
@@ -47,7 +51,6 @@ pub judge-all-spec : {M : Type 1} → statement M
 judge-all-spec =
     tie.close
     (tie.spec
-    committed-ones-requires
     next-writers-requires
     judge-clean-requires
     judge-snapshot-requires

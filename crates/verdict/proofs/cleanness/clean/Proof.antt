@@ -5,6 +5,7 @@ use Rattle.verdict.specs.Refusal.{_else-try_, work-refusal, log-refusal}
 use Rattle.verdict.specs.Call.{turned-away, answered}
 use Rattle.verdict.specs.declared.answers.Checked.the-variants.{Passed}
 use Rattle.verdict.proofs.WellFormed.{else-try→}
+use Rattle.verdict.proofs.Examining.{learned-of}
 use Rattle.verdict.proofs.Frame.{work-left}
 use Rattle.verdict.proofs.cleanness.clean.Statement.{statement}
 use Rattle.verdict.proofs.cleanness.clean.Tie as tie
@@ -14,8 +15,8 @@ abbrev entry : tie.After-admit → tie.Start
 entry c = c .before .before .before
 
 -- the call is taken, from where the work area is cleared
-abbrev taken : tie.After-committed-ones → tie.After-enum-told
-taken c = c .before .before .before .before .before
+abbrev taken : tie.After-part2 → tie.After-enum-told
+taken c = c .before .before .before .before .before .before
 
 passed : (c : tie.After-enum-told) → let a = entry (c .before .before) .args in (work-refusal (a .work .now) else-try log-refusal (a .log .now)) ≡ Passed
 unfolding work-refusal
@@ -33,11 +34,10 @@ enum-told c = search needs
 clear-requires : tie.Need-clear-requires
 clear-requires c κs = search needs
 
-committed-ones-requires : tie.Need-committed-ones-requires
-committed-ones-requires c κs = else-try→ (passed (c .before .before .before .before)) .1
-
 judge-clean-requires : tie.Need-judge-clean-requires
-judge-clean-requires c κs = let known = c .before in (else-try→ (passed (taken known)) .1, known .committed-ones .ensures)
+judge-clean-requires c κs =
+    let here = taken c in
+    (else-try→ (passed here) .1, learned-of (here .before .before .admit .ensures) (here .enum-told .given .1) .who)
 
 returns : tie.Need-returns
 unfolding work-refusal
@@ -48,9 +48,8 @@ same-length c = search needs
 
 returns-2 : tie.Need-returns-2
 returns-2 c =
-    let known = c .before .before in
-    let here = taken known in
-    answered (c .judge-clean .result) (sym (passed here)) (c .judge-clean .ensures) refl (work-left _ (entry (here .before .before) .args .work .now) _ (else-try→ (passed here) .0) (known .before .before .before .clear .ensures))
+    let here = taken (c .before) in
+    answered (c .judge-clean .result) (sym (passed here)) (c .judge-clean .ensures) refl (work-left _ (entry (here .before .before) .args .work .now) _ (else-try→ (passed here) .0) (c .before .before .before .before .before .clear .ensures))
 
 pub clean-spec : {M : Type 1} → statement M
 clean-spec =
@@ -60,7 +59,6 @@ clean-spec =
     enum-known-checked
     enum-told
     clear-requires
-    committed-ones-requires
     judge-clean-requires
     returns
     same-length

@@ -1,6 +1,7 @@
 -- `conflict` meets its contract.
 use borrow.Author.Needs.{needs}
 use Rattle.verdict.specs.Refusal.{log-refusal, work-refusal, witness-refusal}
+use Rattle.verdict.proofs.Examining.{learned-of}
 use Rattle.verdict.proofs.Frame.{Admitted, admitted, call-refused, call-left}
 use Rattle.verdict.proofs.conflict_graph.conflict.Statement.{statement}
 use Rattle.verdict.proofs.conflict_graph.conflict.Tie as tie
@@ -23,11 +24,10 @@ enum-known-checked c = search needs
 enum-told : tie.Need-enum-told
 enum-told c = search needs
 
-committed-ones-requires : tie.Need-committed-ones-requires
-committed-ones-requires c κs = passed (c .before .before) .well
-
 judge-conflict-requires : tie.Need-judge-conflict-requires
-judge-conflict-requires c κs = (passed (c .before .before .before) .well, c .committed-ones .ensures)
+judge-conflict-requires c κs =
+    let told = c .before .before .before in
+    (passed told .well, learned-of (told .before .before .admit-witness .ensures) (told .enum-told .given .1) .who)
 
 leave-requires : tie.Need-leave-requires
 leave-requires c κs = passed (c .before .before .before .before) .witness-size
@@ -54,7 +54,6 @@ conflict-spec =
     admit-witness-requires
     enum-known-checked
     enum-told
-    committed-ones-requires
     judge-conflict-requires
     leave-requires
     returns

@@ -3,7 +3,7 @@ use mathlib.Core.Path.{_≡_, refl, sym, _∙_}
 use borrow.Author.Needs.{needs}
 use Rattle.verdict.specs.Refusal.{log-refusal, search-refusal, work-refusal, witness-refusal}
 use Rattle.verdict.specs.declared.answers.Checked.the-variants.{Passed}
-use Rattle.verdict.proofs.Examining.{marks-of}
+use Rattle.verdict.proofs.Examining.{learned-of}
 use Rattle.verdict.proofs.Frame.{Admitted, admitted, refused-early, refused-later, admitted-later, call-left}
 use Rattle.verdict.proofs.Searching.{search-few}
 use Rattle.verdict.proofs.exactness.exact.Statement.{statement}
@@ -60,11 +60,11 @@ returns-2 c =
 enum-told-2 : tie.Need-enum-told-2
 enum-told-2 c = search needs
 
-exact-by-marks-requires : tie.Need-exact-by-marks-requires
-exact-by-marks-requires c κs =
+exact-learned-requires : tie.Need-exact-learned-requires
+exact-learned-requires c κs =
     let told = counted c in
     let first = checked (told .before .before) in
-    (passed first .well, search-few _ (few told), marks-of (looked-at first .admit-witness .ensures) (first .enum-told .given .1))
+    (passed first .well, search-few _ (few told), learned-of (looked-at first .admit-witness .ensures) (first .enum-told .given .1))
 
 leave-requires : tie.Need-leave-requires
 leave-requires c κs = passed (checked (counted (c .before) .before .before)) .witness-size
@@ -80,7 +80,7 @@ returns-3 c =
     let left = c .before .before .before .before in
     let verdict = left .before in
     let told = counted (verdict .before) in
-    call-left (admitted-later _ _ refl (passed (checked (told .before .before))) (few told)) (verdict .exact-by-marks .ensures) (left .leave .ensures)
+    call-left (admitted-later _ _ refl (passed (checked (told .before .before))) (few told)) (verdict .exact-learned .ensures) (left .leave .ensures)
 
 pub exact-spec : {M : Type 1} → statement M
 exact-spec =
@@ -94,7 +94,7 @@ exact-spec =
     enum-known-searched
     returns-2
     enum-told-2
-    exact-by-marks-requires
+    exact-learned-requires
     leave-requires
     same-length
     same-length-2

@@ -8,18 +8,12 @@ use Rattle.verdict.proofs.HandedIn.{not-clean}
 use Rattle.verdict.proofs.following.after_order.Statement.{statement}
 use Rattle.verdict.proofs.following.after_order.Tie as tie
 
--- the entry, who committed, and the clean verdict, each from where the next is known
-abbrev entry : tie.After-committed-ones → tie.Start
-entry c = c .before .before .before .before
-
-abbrev part-known : tie.After-judge-clean → tie.After-committed-ones
-part-known c = c .before .before
+-- the entry and the clean verdict, each from where the next is known
+abbrev entry : tie.After-judge-clean → tie.Start
+entry c = c .before .before .before .before .before .before
 
 abbrev judged : tie.After-enum-told2 → tie.After-judge-clean
 judged c = c .before .before
-
-committed-ones-requires : tie.Need-committed-ones-requires
-committed-ones-requires c κs = search needs
 
 judge-clean-requires : tie.Need-judge-clean-requires
 judge-clean-requires c κs = search needs
@@ -41,15 +35,15 @@ enum-told-2 : tie.Need-enum-told-2
 enum-told-2 c = search needs
 
 next-writers-requires : tie.Need-next-writers-requires
-next-writers-requires c κs = let q = entry (part-known (judged (c .before .before))) .pre in (q .0, q .1, refl)
+next-writers-requires c κs = let q = entry (judged (c .before .before)) .pre in (q .0, q .1 .marks, refl)
 
 in-version-graph-requires : tie.Need-in-version-graph-requires
 in-version-graph-requires c κs =
     let next = c .before in
     let told = next .before .before .before in
     let j = judged told in
-    let p = part-known j in
-    (entry p .pre .0, cleanness-clean _ (sym (j .judge-clean .ensures) ∙ told .enum-told2 .given .1), p .committed-ones .ensures, next .next-writers .ensures)
+    let q = entry j .pre in
+    (q .0, cleanness-clean _ (sym (j .judge-clean .ensures) ∙ told .enum-told2 .given .1), q .1 .who, next .next-writers .ensures)
 
 returns-2 : tie.Need-returns-2
 returns-2 c = c .in-version-graph .ensures
@@ -58,7 +52,6 @@ pub after-order-spec : {M : Type 1} → statement M
 after-order-spec =
     tie.close
     (tie.spec
-    committed-ones-requires
     judge-clean-requires
     enum-told
     not-listed-requires

@@ -3,7 +3,7 @@ use mathlib.Core.Path.{sym}
 use borrow.Author.Needs.{needs}
 use Rattle.verdict.specs.Refusal.{_else-try_, log-refusal, work-refusal, witness-refusal, order-refusal}
 use Rattle.verdict.proofs.WellFormed.{else-try→}
-use Rattle.verdict.proofs.Examining.{marks-of}
+use Rattle.verdict.proofs.Examining.{learned-of}
 use Rattle.verdict.proofs.Frame.{Admitted, admitted, else-assoc, refused-early, refused-later, admitted-later, call-left}
 use Rattle.verdict.proofs.NextLaws.{comes-refused, comes-next}
 use Rattle.verdict.proofs.following.next.Statement.{statement}
@@ -45,7 +45,7 @@ enum-told : tie.Need-enum-told
 enum-told c = search needs
 
 after-order-requires : tie.Need-after-order-requires
-after-order-requires c κs = (else-try→ (passed c .well) .1, marks-of (looked-at c .admit-order .ensures) (c .enum-told .given .1))
+after-order-requires c κs = (else-try→ (passed c .well) .1, learned-of (looked-at c .admit-order .ensures) (c .enum-told .given .1))
 
 enum-known-checked : tie.Need-enum-known-checked
 enum-known-checked c = search needs

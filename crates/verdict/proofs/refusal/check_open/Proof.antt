@@ -1,41 +1,32 @@
 -- `check_open` meets its contract.
-use mathlib.Core.Path.{_≡_, refl, sym, _∙_}
-use mathlib.Core.Logic.{inl, inr, ⊎-elim}
+use mathlib.Core.Path.{_≡_, refl, sym}
 use Prim.Native.Nat.{_-_, _≤_}
 use native.Mathlib.Omega.{arith}
 use Rattle.verdict.specs.declared.answers.Checked.the-variants.{Passed}
 use Rattle.verdict.specs.Refusal.{tried}
-use Rattle.verdict.specs.Inner.Checking.{open-by-marks}
-use borrow.Author.Tests.{not-true, not-false}
+use Rattle.verdict.specs.Inner.Checking.{open-by-lives}
 use Rattle.verdict.proofs.Refused.{tried-none, tried-first}
 use Rattle.verdict.proofs.Numbers.{still-open, not-open}
 use Rattle.verdict.proofs.refusal.check_open.Statement.{statement}
 use Rattle.verdict.proofs.refusal.check_open.Tie as tie
 
 abbrev Inv-loop : tie.InvT-loop
-Inv-loop begins ends t₀ t = (t ≤ 129) × (tried t (open-by-marks begins ends) ≡ Passed)
+Inv-loop lives t₀ t = (t ≤ 129) × (tried t (open-by-lives lives) ≡ Passed)
 
 abbrev μ-loop : tie.MeasureT-loop
-μ-loop begins ends t₀ t = 129 - t
+μ-loop lives t₀ t = 129 - t
 
 loop-holds : tie.Need-loop-holds Inv-loop μ-loop
 unfolding tried
 loop-holds c = (omega arith, refl)
 
-marked-requires : tie.Need-marked-requires Inv-loop μ-loop
-marked-requires c κs = omega arith
-
-marked-requires-2 : tie.Need-marked-requires-2 Inv-loop μ-loop
-marked-requires-2 c κs = omega arith
-
-cast-t8 : tie.Need-cast-t8 Inv-loop μ-loop
-cast-t8 c = omega arith
+element-copy-out-if1 : tie.Need-element-copy-out-if1 Inv-loop μ-loop
+element-copy-out-if1 c = omega arith
 
 returns : tie.Need-returns Inv-loop μ-loop
 returns c =
-    let one = c .before .before in
-    let at = one .before .before .before in
-    sym (tried-first _ (at .loop .t) (omega arith) (at .loop .inv .1) (still-open _ _ (at .loop .t) (sym (one .before .marked .ensures) ∙ one .if1 .taken) (sym (c .before .marked2 .ensures) ∙ not-true _ (c .if2 .taken))))
+    let at = c .before .before .before in
+    sym (tried-first _ (at .loop .t) (omega arith) (at .loop .inv .1) (still-open _ (at .loop .t) (c .if1 .taken)))
 
 add-t : tie.Need-add-t Inv-loop μ-loop
 add-t c = omega arith
@@ -46,7 +37,7 @@ loop-less c = omega arith
 loop-again : tie.Need-loop-again Inv-loop μ-loop
 loop-again c =
     let at = c .before .before .before in
-    (omega arith, tried-none _ _ (at .loop .inv .1) (not-open _ _ (at .loop .t) (⊎-elim (λ w. inr (sym (w .1 .ensures) ∙ not-false _ (w .2 .left))) (λ w. inl (sym (c .before .marked .ensures) ∙ w .left)) (c .if1 .came))))
+    (omega arith, tried-none _ _ (at .loop .inv .1) (not-open _ (at .loop .t) (c .if1 .left)))
 
 returns-2 : tie.Need-returns-2 Inv-loop μ-loop
 returns-2 c = let e : c .before .loop .t ≡ 129 = omega arith in sym (rw e at (c .before .loop .inv .1))
@@ -58,9 +49,7 @@ check-open-spec =
     Inv-loop
     μ-loop
     loop-holds
-    marked-requires
-    marked-requires-2
-    cast-t8
+    element-copy-out-if1
     returns
     add-t
     loop-less

@@ -1,15 +1,23 @@
 -- `examine` meets its contract.
 use mathlib.Core.Path.{_≡_, refl, sym, _∙_}
+use mathlib.Core.Bool.{true}
 use Prim.Native.Nat.{ℕ}
 use native.Mathlib.Omega.{arith}
 use borrow.Author.Needs.{needs}
-use Rattle.verdict.specs.Limits.{make-log}
+use Rattle.words.specs.Tests.{_upto_}
+use Rattle.words.proofs.Truth.{upto→}
+use Rattle.verdict.specs.Limits.{most-steps, make-log}
 use Rattle.verdict.specs.Log.{steps}
 use Rattle.verdict.proofs.Examining.{examined-away, examined-as}
 use Rattle.verdict.proofs.Refused.{chose-first, chose-second}
 use Rattle.verdict.proofs.Numbers.{odd-length, too-long, by-steps}
 use Rattle.verdict.proofs.refusal.examine.Statement.{statement}
 use Rattle.verdict.proofs.refusal.examine.Tie as tie
+
+-- the log is no longer than it may be
+within : (c : tie.After-enum-told) → (steps (c .before .before .before .before .before .args .log .now) upto most-steps) ≡ true
+unfolding steps make-log
+within c = chose-first _ _ _ (sym (c .before .before .of .ensures) ∙ c .enum-told .given .1) (λ e. let z : _≡_ {A = ℕ} 0 1 = cc in omega arith)
 
 turned-away-requires : tie.Need-turned-away-requires
 turned-away-requires c κs = search needs
@@ -38,14 +46,14 @@ returns-2 c =
 
 check-steps-requires : tie.Need-check-steps-requires
 unfolding steps
-check-steps-requires c κs = refl
+check-steps-requires c κs = (refl, upto→ (within c))
 
 returns-3 : tie.Need-returns-3
 unfolding steps make-log
 returns-3 c =
     let told = c .before in
     let made = told .before .before in
-    examined-as (by-steps _ (made .before .if1 .left) (chose-first _ _ _ (sym (made .of .ensures) ∙ told .enum-told .given .1) (λ e. let z : _≡_ {A = ℕ} 0 1 = cc in omega arith))) (c .check-steps .ensures)
+    examined-as (by-steps _ (made .before .if1 .left) (within told)) (c .check-steps .ensures)
 
 pub examine-spec : {M : Type 1} → statement M
 examine-spec =

@@ -36,7 +36,7 @@ returns c = numbered-first _ _ _ (by-range (c .before)) (c .if1 .taken)
 life-number-requires : tie.Need-life-number-requires
 life-number-requires c κs =
     let q = entry (c .before) .pre in
-    (q .0, tx-within _ _ (within c) .1, q .1 .has-begun, q .1 .has-ended)
+    (q .0, tx-within _ _ (within c) .1, q .1)
 
 returns-2 : tie.Need-returns-2
 unfolding step-refusal
@@ -48,7 +48,7 @@ source-number-requires : tie.Need-source-number-requires
 source-number-requires c κs =
     let ranged = c .before .before in
     let q = entry (ranged .before) .pre in
-    (q .0, within ranged, q .1 .has-written)
+    (q .0, within ranged, q .2)
 
 returns-3 : tie.Need-returns-3
 unfolding step-refusal

@@ -24,7 +24,7 @@ abbrev asked : tie.After-asks → tie.After-all-needed
 asked c = c .before .before .before
 
 abbrev found-list : tie.After-place → tie.After-list-committed
-found-list c = listed (asked (c .before) .before .before .before)
+found-list c = listed (asked (c .before .before) .before .before .before)
 
 -- no more are left than the search takes
 few : (c : tie.After-list-committed) → c .list-committed .result .count ≤ most-searched
@@ -56,7 +56,7 @@ all-needed-requires c κs =
 
 place-requires : tie.Need-place-requires
 place-requires c κs =
-    let a = asked c in
+    let a = asked (c .before) in
     let made = a .before .before .before in
     let l = listed made in
     let q = entry l .pre in (

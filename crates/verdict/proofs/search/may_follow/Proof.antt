@@ -9,7 +9,7 @@ use Rattle.verdict.proofs.search.may_follow.Tie as tie
 
 -- the one is left, from where it is asked what it needs
 abbrev left : tie.After-fits2 → tie.Else1
-left c = c .before .before .before .before .before
+left c = c .before .before .before
 
 has-mark-requires : tie.Need-has-mark-requires
 has-mark-requires c κs = search needs

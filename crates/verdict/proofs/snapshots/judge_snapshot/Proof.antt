@@ -9,30 +9,21 @@ use Rattle.verdict.proofs.SnapshotLaws.{read-first, write-first, all-ri
 use Rattle.verdict.proofs.snapshots.judge_snapshot.Statement.{statement}
 use Rattle.verdict.proofs.snapshots.judge_snapshot.Tie as tie
 
--- both tables and the entry, from where the lowest wrong read is known; and that place, from where the first clash is
-abbrev tables : tie.After-first-wrong → tie.After-first-steps2
-tables c = c .before .before .before
-
+-- the entry, from where the lowest wrong read is known; and that place, from where the first clash is
 abbrev entry : tie.After-first-wrong → tie.Start
-entry c = tables c .before .before .before
+entry c = c .before .before
 
 abbrev read : tie.After-first-clash → tie.After-first-wrong
-read c = c .before .before .before
-
-first-steps-requires : tie.Need-first-steps-requires
-first-steps-requires c κs = search needs
-
-first-steps-requires-2 : tie.Need-first-steps-requires-2
-first-steps-requires-2 c κs = search needs
+read c = c .before
 
 first-wrong-requires : tie.Need-first-wrong-requires
 first-wrong-requires c κs = search needs
 
 first-clash-requires : tie.Need-first-clash-requires
 first-clash-requires c κs =
-    let here = c .before .before in
-    let log = entry here .args .log .now in
-    (entry here .pre .0, entry here .pre .1, tables here .before .first-steps .ensures, tables here .first-steps2 .ensures, omega (arith, here .first-wrong .ensures, lowest-bound {n = steps log} (wrong-read log)))
+    let q = entry c .pre in
+    let log = entry c .args .log .now in
+    (q .0, q .3, q .1, q .2, omega (arith, c .first-wrong .ensures, lowest-bound {n = steps log} (wrong-read log)))
 
 returns : tie.Need-returns
 returns c = sym (write-first _ _ _ _ (read (c .before) .first-wrong .ensures) (c .before .first-clash .ensures) (c .if1 .taken))
@@ -43,7 +34,7 @@ wanted-requires c κs = search needs
 returns-2 : tie.Need-returns-2
 unfolding steps
 returns-2 c =
-    let one = c .before .before in
+    let one = c .before in
     let judged = one .before .before in
     sym (read-first _ _ _ _ (read judged .first-wrong .ensures) (judged .first-clash .ensures) (one .before .if1 .left) (one .if2 .taken) (c .wanted .ensures))
 
@@ -57,8 +48,6 @@ pub judge-snapshot-spec : {M : Type 1} → statement M
 judge-snapshot-spec =
     tie.close
     (tie.spec
-    first-steps-requires
-    first-steps-requires-2
     first-wrong-requires
     first-clash-requires
     returns

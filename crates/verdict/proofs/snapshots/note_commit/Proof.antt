@@ -1,7 +1,9 @@
 -- `note_commit` meets its contract.
 use mathlib.Core.Path.{_≡_, refl, sym, ap, _∙_}
-use Prim.Native.Nat.{_+_, _≤_}
+use mathlib.Core.List.{List}
+use Prim.Native.Nat.{ℕ, _+_, _≤_}
 use native.Mathlib.Omega.{arith}
+use Rattle.bits.specs.Table.{Puts}
 use Rattle.verdict.specs.Limits.{transactions}
 use Rattle.verdict.specs.Log.{steps, kind, tx}
 use Rattle.verdict.specs.Snapshot.{snapshot-step}
@@ -10,6 +12,7 @@ use Rattle.verdict.proofs.WellFormed.{well-formed, steps-within}
 use Rattle.verdict.proofs.SnapshotLaws.{no-commit, begin-at}
 use Rattle.verdict.proofs.Clashing.{other-step, commit-more, none-since}
 use borrow.Author.Needs.{needs}
+use lib.ListN.{getD}
 use Rattle.verdict.proofs.snapshots.note_commit.Statement.{statement}
 use Rattle.verdict.proofs.snapshots.note_commit.Tie as tie
 
@@ -38,8 +41,8 @@ module _ (c : tie.After-put-marked) where
   committing : marks c .before .index .result ≡ tx (entry here .args .log .now) (entry here .args .j)
   committing = marks c .before .index .ensures ∙ here .before .step-at .ensures .tx-is
 
-  last-then : LastCommits (entry here .args .log .now) (entry here .args .j + 1) (c .put-marked .result)
-  last-then = commit-more _ _ (entry here .pre .3) (entry here .pre .1) committing (omega (arith, marks c .before .index .ensures, in-range here .1)) is-commit refl (c .put-marked .ensures)
+  last-then : {next : List ℕ} → Puts (entry here .args .last .now) (getD (entry here .args .writes .now) (marks c .before .index .result) 0) (entry here .args .j) next → LastCommits (entry here .args .log .now) (entry here .args .j + 1) next
+  last-then put = commit-more _ _ (entry here .pre .3) (entry here .pre .1) committing (omega (arith, marks c .before .index .ensures, in-range here .1)) is-commit refl put
 
 step-at-requires : tie.Need-step-at-requires
 unfolding steps
@@ -79,7 +82,7 @@ returns-2 : tie.Need-returns-2
 returns-2 c =
     let put = c .before in
     let step-is = here put .before .step-at .ensures in
-    record { last = last-then put; nobody = λ e. absurd (omega (arith, e, in-range (here put) .0)); commit = λ _. (is-commit put, sym (step-is .tx-is), in-range (here put) .1) }
+    record { last = last-then put (put .put-marked .ensures); nobody = λ e. absurd (omega (arith, e, in-range (here put) .0)); commit = λ _. (is-commit put, sym (step-is .tx-is), in-range (here put) .1) }
 
 returns-3 : tie.Need-returns-3
 returns-3 c =
@@ -89,7 +92,7 @@ returns-3 c =
     let index-is = marks put .before .index .ensures in
     let begin = asked .before .step-of .ensures ∙ begin-at _ _ (in-range (here put) .1) (s .pre .2) ∙ ap (snapshot-step (s .args .log .now)) (sym index-is) in
     record {
-      last = last-then put;
+      last = last-then put (put .put-marked .ensures);
       nobody = λ _. none-since _ _ (s .pre .3) (s .pre .1) (committing put) (omega (arith, index-is, in-range (here put) .1)) (well-formed _ (s .pre .0)) begin (sym (asked .marked-above .ensures) ∙ c .if2 .left);
       commit = λ h. absurd (h refl);
     }

@@ -5,7 +5,7 @@ use Rattle.verdict.specs.Refusal.{_else-try_, work-refusal, log-refusal}
 use Rattle.verdict.specs.Call.{turned-away, answered}
 use Rattle.verdict.specs.declared.answers.Checked.the-variants.{Passed}
 use Rattle.verdict.proofs.WellFormed.{else-try→}
-use Rattle.verdict.proofs.Examining.{marks-of}
+use Rattle.verdict.proofs.Examining.{learned-of}
 use Rattle.verdict.proofs.Frame.{work-left}
 use Rattle.verdict.proofs.snapshots.snapshot.Statement.{statement}
 use Rattle.verdict.proofs.snapshots.snapshot.Tie as tie
@@ -37,10 +37,10 @@ enum-told c = search needs
 clear-requires : tie.Need-clear-requires
 clear-requires c κs = search needs
 
-snapshot-by-marks-requires : tie.Need-snapshot-by-marks-requires
-snapshot-by-marks-requires c κs =
+snapshot-learned-requires : tie.Need-snapshot-learned-requires
+snapshot-learned-requires c κs =
     let told = taken c in
-    (else-try→ (passed told) .1, marks-of (looked-at told .admit .ensures) (told .enum-told .given .1))
+    (else-try→ (passed told) .1, learned-of (looked-at told .admit .ensures) (told .enum-told .given .1))
 
 returns : tie.Need-returns
 unfolding work-refusal
@@ -53,7 +53,7 @@ returns-2 : tie.Need-returns-2
 returns-2 c =
     let clean = c .before in
     let here = taken clean in
-    answered (c .snapshot-by-marks .result) (sym (passed here)) (c .snapshot-by-marks .ensures) refl (work-left _ (entry (looked-at here) .args .work .now) _ (else-try→ (passed here) .0) (clean .before .before .clear .ensures))
+    answered (c .snapshot-learned .result) (sym (passed here)) (c .snapshot-learned .ensures) refl (work-left _ (entry (looked-at here) .args .work .now) _ (else-try→ (passed here) .0) (clean .before .before .clear .ensures))
 
 pub snapshot-spec : {M : Type 1} → statement M
 snapshot-spec =
@@ -63,7 +63,7 @@ snapshot-spec =
     enum-known-checked
     enum-told
     clear-requires
-    snapshot-by-marks-requires
+    snapshot-learned-requires
     returns
     same-length
     returns-2)

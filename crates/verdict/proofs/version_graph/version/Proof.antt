@@ -1,7 +1,7 @@
 -- `version` meets its contract.
 use borrow.Author.Needs.{needs}
 use Rattle.verdict.specs.Refusal.{log-refusal, work-refusal, witness-refusal}
-use Rattle.verdict.proofs.Examining.{marks-of}
+use Rattle.verdict.proofs.Examining.{learned-of}
 use Rattle.verdict.proofs.Frame.{Admitted, admitted, call-refused, call-left}
 use Rattle.verdict.proofs.version_graph.version.Statement.{statement}
 use Rattle.verdict.proofs.version_graph.version.Tie as tie
@@ -27,10 +27,10 @@ enum-known-checked c = search needs
 enum-told : tie.Need-enum-told
 enum-told c = search needs
 
-version-by-marks-requires : tie.Need-version-by-marks-requires
-version-by-marks-requires c κs =
+version-learned-requires : tie.Need-version-learned-requires
+version-learned-requires c κs =
     let told = c .before .before in
-    (passed told .well, marks-of (looked-at told .admit-witness .ensures) (told .enum-told .given .1))
+    (passed told .well, learned-of (looked-at told .admit-witness .ensures) (told .enum-told .given .1))
 
 leave-requires : tie.Need-leave-requires
 leave-requires c κs = passed (c .before .before .before) .witness-size
@@ -48,7 +48,7 @@ same-length-2 c = search needs
 returns-2 : tie.Need-returns-2
 returns-2 c =
     let found = c .before .before .before .before .before in
-    call-left (passed (found .before .before .before)) (found .version-by-marks .ensures) (c .before .before .before .before .leave .ensures)
+    call-left (passed (found .before .before .before)) (found .version-learned .ensures) (c .before .before .before .before .leave .ensures)
 
 pub version-spec : {M : Type 1} → statement M
 version-spec =
@@ -57,7 +57,7 @@ version-spec =
     admit-witness-requires
     enum-known-checked
     enum-told
-    version-by-marks-requires
+    version-learned-requires
     leave-requires
     returns
     same-length

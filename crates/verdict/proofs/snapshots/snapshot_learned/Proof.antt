@@ -1,11 +1,11 @@
--- `snapshot_by_marks` meets its contract.
+-- `snapshot_learned` meets its contract.
 use mathlib.Core.Path.{_≡_, sym}
 use native.Mathlib.Omega.{arith}
 use Rattle.verdict.specs.Log.{steps}
 use Rattle.verdict.proofs.SnapshotLaws.{none-wrong}
 use borrow.Author.Needs.{needs}
-use Rattle.verdict.proofs.snapshots.snapshot_by_marks.Statement.{statement}
-use Rattle.verdict.proofs.snapshots.snapshot_by_marks.Tie as tie
+use Rattle.verdict.proofs.snapshots.snapshot_learned.Statement.{statement}
+use Rattle.verdict.proofs.snapshots.snapshot_learned.Tie as tie
 
 returns : tie.Need-returns
 unfolding steps
@@ -20,6 +20,6 @@ judge-snapshot-requires c κs = search needs
 returns-2 : tie.Need-returns-2
 returns-2 c = search needs
 
-pub snapshot-by-marks-spec : {M : Type 1} → statement M
-snapshot-by-marks-spec =
+pub snapshot-learned-spec : {M : Type 1} → statement M
+snapshot-learned-spec =
     tie.close (tie.spec returns next-writers-requires judge-snapshot-requires returns-2)
