@@ -11,6 +11,7 @@ pub mod Ended
 pub mod Examining
 pub mod Frame
 pub mod WriteMarks
+pub mod CommitOrders
 pub mod NextWriters
 pub mod FirstSteps
 pub mod Filled

@@ -5,7 +5,7 @@ use mathlib.Core.Logic.{_⊎_, inl, inr, ⊎-elim}
 use mathlib.Core.List.{List}
 use Prim.Native.Nat.{ℕ, suc, _+_, _≤_, _<_}
 use native.Mathlib.Omega.{arith}
-use lib.ListN.{length, getD, set, replicate, length-set, length-replicate, getD-replicate}
+use lib.ListN.{getD, set, replicate, length-set, length-replicate, getD-replicate}
 use lib.Seq.{getD-set-same, getD-set-other}
 use Rattle.words.specs.Tests.{_is_, _and_, _or_, fails, if_then_else_, some}
 use Rattle.words.proofs.Truth.{decide, not-both, to-false, →and, and-no-left, and-no-right, →or-left, →or-right, or-no, is→, →is, isnt→, →isnt, if-true, if-false, →some, some-skip, some-next}

@@ -3,7 +3,7 @@ use mathlib.Core.Path.{_≡_, refl, sym, ap, fun-ext, _∙_}
 use mathlib.Core.Bool.{Bool, true, false}
 use mathlib.Core.Logic.{⊎-elim}
 use mathlib.Core.List.{List}
-use Prim.Native.Nat.{ℕ, suc, _+_, _≤_, _<_}
+use Prim.Native.Nat.{ℕ, suc, _≤_}
 use native.Mathlib.Omega.{arith}
 use lib.ListN.{length, replicate, length-replicate}
 use Rattle.words.specs.Tests.{_is_, _upto_, _and_, _or_, some}
@@ -14,12 +14,12 @@ use Rattle.graph.specs.Shows.{Shows}
 use Rattle.graph.specs.declared.Shape.{Shape}
 use Rattle.graph.specs.declared.Shape.the-variants as shapes
 use Rattle.graph.specs.declared.Shown.{Shown}
-use Rattle.words.proofs.Truth.{not-both, same-test, and→, →and, and-true-right, and-no-left, or→, →or-left, →or-right, →fails, fails→, is→, isnt→, →is, →isnt, →upto, some-skip, some-next}
+use Rattle.words.proofs.Truth.{not-both, same-test, and→, →and, and-true-right, or→, →or-left, →fails, fails→, is→, isnt→, →is, →isnt, →upto}
 use Rattle.graph.proofs.Marks.{part→, joined→, in-row-of, joined-by-row}
 use Rattle.graph.proofs.TwoWords.{no-member}
 use Rattle.graph.proofs.RowLaws.{no-rows}
 use Rattle.verdict.specs.Limits.{transactions}
-use Rattle.verdict.specs.Log.{steps, kind, tx, commits, committed}
+use Rattle.verdict.specs.Log.{committed}
 use Rattle.verdict.specs.Outcome.{order, cycle, said, members, OfGraph, shows-order, shows-cycle}
 use Rattle.verdict.specs.Judgement.{Holds}
 use Rattle.verdict.specs.declared.answers.Witnessed.{Witnessed}

@@ -3,7 +3,7 @@ use mathlib.Core.Path.{_≡_, refl, sym, ap, _∙_}
 use mathlib.Core.Bool.{true, false}
 use mathlib.Core.Logic.{_⊎_, inl, inr}
 use mathlib.Core.List.{List}
-use Prim.Native.Nat.{ℕ, suc, _+_, _*_, _≤_, _<_}
+use Prim.Native.Nat.{ℕ, zero, suc, _+_, _-_, _*_, _≤_, _<_}
 use native.Mathlib.Omega.{arith}
 use lib.ListN.{length, getD, set, replicate, length-set, length-replicate, getD-replicate}
 use lib.Seq.{getD-set-same, getD-set-other}
@@ -18,7 +18,9 @@ use Rattle.verdict.specs.Version.{versions-from, next-commit}
 use Rattle.verdict.specs.Inner.VersionEdges.{next-writer}
 use Rattle.verdict.specs.Inner.NextWriters.{at, PutBefore, NextWriters}
 use Rattle.verdict.specs.Inner.WriteTable.{WriteTable}
+use Rattle.verdict.specs.Inner.Checking.{committer}
 use Rattle.verdict.proofs.WellFormed.{Well}
+use Rattle.verdict.proofs.CommitOrders.{LastCommit, last-commit, none-committed}
 use Rattle.verdict.proofs.Versions.{versions-from-zero, versions-from-other, commit-step-at}
 
 -- THE WRITER OF THE FIRST VERSION THAT IS COMMITTED FROM A STEP ON
@@ -122,6 +124,50 @@ module _ (log : List ℕ) where
         entry v x a b z w l (inr q) =
             put .entry v x a b ∙ if-false _ _ (and-no-right _ (→isnt z)) ∙ if-false _ _ (and-no-right _ q)
             ∙ known .entry v x a b z w (later v l (and-no-right _ (→isnt (λ e. isnt→ q (sym e)))))
+
+  -- steps that commit nothing are passed over
+  pub coming-down : Well transactions log → (i d : ℕ) {table : List ℕ} → i + d ≤ steps log → ((j : ℕ) → i ≤ j → j < i + d → kind log j ≡ 4 → ⊥) → Coming log (i + d) table → Coming log i table
+  coming-down well i zero h none known = let e : i + 0 ≡ i = omega arith in rw e at known
+  coming-down well i (suc d) h none known =
+      let e : i + suc d ≡ suc (i + d) = omega arith in
+      coming-down well i d (omega arith) (λ (j : ℕ) (a : i ≤ j) (b : j < i + d). none j a (omega arith)) (coming-skip well (i + d) (omega arith) (rw e at known) (none (i + d) (omega arith) (omega arith)))
+
+  -- the last commit before the steps that are done, and that there is none
+  pub coming-last : Well transactions log → {j : ℕ} {table writes after : List ℕ} {u : ℕ} → j ≤ steps log → Coming log j table → (c : LastCommit log j) → WriteTable log writes → u ≡ tx log (c .step) → PutBefore table (getD writes u 0) u after → Coming log (c .step) after
+  coming-last well {j} h known c marks e put =
+      let d : suc (c .step) + (j - suc (c .step)) ≡ j = omega (arith, c .below) in
+      coming-more well (c .step) (omega (arith, c .below))
+      (coming-down well (suc (c .step)) (j - suc (c .step)) (rw d h) (λ (i : ℕ) (a : suc (c .step) ≤ i) (b : i < suc (c .step) + (j - suc (c .step))). c .none-since i (omega arith) (omega (arith, c .below))) (rw d known))
+      marks (c .commits) (rw e at put)
+
+  pub coming-first : Well transactions log → {j : ℕ} {table : List ℕ} → j ≤ steps log → committer log j ≡ 0 → Coming log j table → Coming log 0 table
+  coming-first well {j} h e known =
+      let z : 0 + j ≡ j = omega arith in
+      coming-down well 0 j (rw z h) (λ (i : ℕ) a (b : i < 0 + j) k. none-committed log j e (λ (l : ℕ) (m : l < j) n. well .range l (omega arith) .0) i (omega arith) k) (rw z known)
+
+  -- how much of the log is left: up to the commit of t
+  pub left : ℕ → ℕ
+  left t = if t is 0 then 0 else suc (commit-step log t)
+
+  pub left-less : Well transactions log → {j : ℕ} {t u : ℕ} → j ≤ steps log → (c : LastCommit log j) → t ≡ tx log (c .step) → u ≡ committer log (c .step) → left u < left t
+  unfolding left
+  left-less well {j} {t} {u} h c e f = rw (here ∙ ap suc (ap (commit-step log) e ∙ commit-is (c .step) (omega (arith, c .below)) (c .commits))) (go (decide (u is 0)))
+    where
+      commit-is : (s : ℕ) → s < steps log → kind log s ≡ 4 → commit-step log (tx log s) ≡ s
+      commit-is s l k = commit-step-at log well (tx log s) s l (commits-here s k)
+        where
+          commits-here : (s : ℕ) → kind log s ≡ 4 → commits log (tx log s) s ≡ true
+          commits-here s k = unfold commits in (→and (→is k) (→is refl))
+
+      here : (if t is 0 then 0 else suc (commit-step log t)) ≡ suc (commit-step log t)
+      here = if-false _ _ (→isnt (λ (z : t ≡ 0). omega (arith, z, e, well .range (c .step) (omega (arith, c .below)) .0)))
+
+      go : ((u is 0) ≡ true) ⊎ ((u is 0) ≡ false) → (if u is 0 then 0 else suc (commit-step log u)) < suc (c .step)
+      go (inl q) = rw (if-true 0 (suc (commit-step log u)) q) (omega arith)
+      go (inr q) =
+          let b = last-commit log (c .step) (λ z. isnt→ q (f ∙ z)) in
+          let w : commit-step log u ≡ b .step = ap (commit-step log) (f ∙ sym (b .by)) ∙ commit-is (b .step) (omega (arith, b .below, c .below)) (b .commits) in
+          rw (if-false 0 (suc (commit-step log u)) q) (omega (arith, w, b .below))
 
   -- all steps
   pub coming-all : {table : List ℕ} → Coming log 0 table → NextWriters log table

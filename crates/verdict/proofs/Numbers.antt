@@ -6,7 +6,7 @@ use mathlib.Core.List.{List}
 use Prim.Native.Nat.{ℕ, suc, _%_}
 use lib.ListN.{length, getD}
 use Rattle.words.specs.Tests.{_is_, _upto_, _and_, fails}
-use Rattle.words.proofs.Truth.{→and, and-no-left, and-no-right, →or-left, →or-right, or-no, fails→, →fails, not-fails→, →not-fails, →is, →isnt, →below, →not-below, upto→, not-upto→}
+use Rattle.words.proofs.Truth.{→and, and-no-left, and-no-right, →or-left, →or-right, or-no, →fails, →not-fails, →is, →isnt, →below, →not-below, upto→, not-upto→}
 use Rattle.verdict.specs.Limits.{transactions, most-steps}
 use Rattle.verdict.specs.Log.{steps, kind, tx, obj, src, begun, ended, wrote}
 use Rattle.verdict.specs.declared.answers.Checked.the-variants.{Passed, Refused}

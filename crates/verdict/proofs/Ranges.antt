@@ -1,11 +1,11 @@
 -- What the kind of a step allows as object and source, and which of 3 to 6 follows from it.
 use mathlib.Core.Path.{_≡_, refl, sym, _∙_}
-use mathlib.Core.Bool.{Bool, true, false}
+use mathlib.Core.Bool.{true, false}
 use Prim.Native.Nat.{ℕ, _<_, _≤_}
 use native.Mathlib.Omega.{arith}
-use Rattle.words.specs.Tests.{_is_, _below_, _upto_, _and_, _or_, fails, if_then_else_}
+use Rattle.words.specs.Tests.{_is_, _below_, _upto_, _and_, _or_, fails}
 use Rattle.words.proofs.Truth.{not-both, same-test, and→, →and, →fails, →not-fails, is→, →is, →isnt, below→, →below, upto→, →upto, if-true, if-false}
-use Rattle.verdict.specs.Limits.{transactions, objects}
+use Rattle.verdict.specs.Limits.{objects}
 use Rattle.verdict.specs.Refusal.{object-allowed, source-allowed, range-refusal}
 use Rattle.verdict.specs.Inner.Checking.{Allowing, in-range}
 use Rattle.verdict.specs.declared.refusal.Ranges.{Ranges}

@@ -44,9 +44,10 @@ fn judge_all(log: &[u16], found: Examined) -> Judgement
     let begins = found.begins;
     let commits = found.commits;
     let part = found.part;
+    let earlier = found.earlier;
     let writes = found.writes;
     let mut next = [0u8; Transaction::PAIRS];
-    next_writers(log, &writes, &mut next);
+    next_writers(log, &writes, &earlier, &mut next);
     let clean = judge_clean(log, &part);
     Judgement {
         checked: Checked::Passed,

@@ -142,6 +142,7 @@ fn after_order(log: &[u16], found: Examined, order: &[u16]) -> Following
     requires { ⌜ (log-refusal (now log) ≡ Passed) × Learned (now log) found ⌝ }
     ensures { λ r. ⌜ Comes (now (log .entry)) (now (order .entry)) r ⌝ }
 {
+    let earlier = found.earlier;
     let writes = found.writes;
     let part = found.part;
     let clean = judge_clean(log, &part);
@@ -149,7 +150,7 @@ fn after_order(log: &[u16], found: Examined, order: &[u16]) -> Following
         return not_listed();
     }
     let mut next = [0u8; Transaction::PAIRS];
-    next_writers(log, &writes, &mut next);
+    next_writers(log, &writes, &earlier, &mut next);
     in_version_graph(log, part, &next, order)
 }
 

@@ -22,12 +22,14 @@ ghost use Rattle.verdict.specs.Inner.WriteTable.{Versions};
 ghost use Rattle.verdict.specs.declared.answers.Checked.the-variants.{Passed, Refused};
 
 // What the check finds: its answer and, where nothing turns the log away, for each transaction the steps at which it begins and commits (the
-// number of steps, where it does not), whether it committed, and the marks of the objects that it writes.
+// number of steps, where it does not), whether it committed, who committed before it (entry 0 has the last to commit), and the marks of the objects that
+// it writes.
 pub(crate) struct Examined {
     pub checked: Checked,
     pub begins: [u16; Transaction::TABLE],
     pub commits: [u16; Transaction::TABLE],
     pub part: [u64; graph::WORDS],
+    pub earlier: [u16; Transaction::TABLE],
     pub writes: [u64; Transaction::TABLE],
 }
 
@@ -180,11 +182,12 @@ fn note_step(
     begins: &mut [u16; Transaction::TABLE],
     commits: &mut [u16; Transaction::TABLE],
     part: &mut [u64; graph::WORDS],
+    earlier: &mut [u16; Transaction::TABLE],
     versions: &mut [u64; Transaction::TABLE],
 )
     requires { ⌜ (i < steps (now log)) × (steps (now log) ≤ most-steps) × (step-refusal (now log) i ≡ Passed)
-        × Noted (now log) i (now lives) (now begins) (now commits) (now part) (now versions) ⌝ }
-    ensures { λ _. ⌜ Noted (now (log .entry)) (i + 1) (now (lives .exit)) (now (begins .exit)) (now (commits .exit)) (now (part .exit)) (now (versions .exit)) ⌝ }
+        × Noted (now log) i (now lives) (now begins) (now commits) (now part) (now earlier) (now versions) ⌝ }
+    ensures { λ _. ⌜ Noted (now (log .entry)) (i + 1) (now (lives .exit)) (now (begins .exit)) (now (commits .exit)) (now (part .exit)) (now (earlier .exit)) (now (versions .exit)) ⌝ }
 {
     let step = step_at(log, i);
     let t = index(step.tx);
@@ -205,6 +208,8 @@ fn note_step(
     if step.kind == Step::COMMIT {
         commits[t] = i as u16;
         *part = graph::with_vertex(*part, t);
+        earlier[t] = earlier[0];
+        earlier[0] = t as u16;
     }
 }
 
@@ -231,6 +236,7 @@ pub(crate) fn turned_away(number: u16, place: usize) -> Examined
         begins: [0u16; Transaction::TABLE],
         commits: [0u16; Transaction::TABLE],
         part: [0u64; graph::WORDS],
+        earlier: [0u16; Transaction::TABLE],
         writes: [0u64; Transaction::TABLE],
     }
 }
@@ -245,6 +251,7 @@ fn check_steps(log: &[u16], n: usize) -> Examined
     let mut begins = [none; Transaction::TABLE];
     let mut commits = [none; Transaction::TABLE];
     let mut part = [0u64; graph::WORDS];
+    let mut earlier = [0u16; Transaction::TABLE];
     let mut writes = [0u64; Transaction::TABLE];
     writes[0] = EVERY_OBJECT;
     let mut i = 0;
@@ -260,6 +267,7 @@ fn check_steps(log: &[u16], n: usize) -> Examined
             &mut begins,
             &mut commits,
             &mut part,
+            &mut earlier,
             &mut writes,
         );
         i += 1;
@@ -270,6 +278,7 @@ fn check_steps(log: &[u16], n: usize) -> Examined
         begins,
         commits,
         part,
+        earlier,
         writes,
     }
 }

@@ -262,9 +262,10 @@ fn snapshot_learned(log: &[u16], found: Examined) -> Snapshot
     }
     let begins = found.begins;
     let commits = found.commits;
+    let earlier = found.earlier;
     let writes = found.writes;
     let mut next = [0u8; Transaction::PAIRS];
-    next_writers(log, &writes, &mut next);
+    next_writers(log, &writes, &earlier, &mut next);
     judge_snapshot(log, &begins, &commits, &writes, &next)
 }
 

@@ -1,14 +1,14 @@
-// The table of who writes the next versions, filled by one walk.
+// The table of who writes the next versions, filled by one walk over those who committed.
 use crate::limits::Object;
 use crate::limits::Transaction;
-use crate::step::Step;
-use crate::step::step_at;
 use crate::walk::index;
 ghost use mathlib.Core.Path.{_≡_};
 ghost use Prim.Native.Nat.{_+_, _*_, _≤_, _<_};
 ghost use lib.ListN.{length, getD, replicate};
 ghost use Rattle.verdict.specs.Limits.{transactions, objects};
 ghost use Rattle.verdict.specs.Refusal.{log-refusal};
+ghost use Rattle.verdict.specs.Log.{steps};
+ghost use Rattle.verdict.specs.Inner.Checking.{CommitOrder};
 ghost use Rattle.verdict.specs.Inner.NextWriters.{NextWriters, PutBefore};
 ghost use Rattle.verdict.specs.Inner.WriteTable.{WriteTable};
 ghost use Rattle.verdict.specs.declared.answers.Checked.the-variants.{Passed};
@@ -28,23 +28,21 @@ fn put_before(table: &mut [u8; Transaction::PAIRS], marks: u64, t: usize)
     }
 }
 
-// Fills a table of zeros: for the store and each writer of an object, the writer of its next version, or 0 where there is none.
+// Fills a table of zeros, from the last to commit to the first: for the store and each writer of an object, the writer of its next version, or 0 where there is none.
 pub(crate) fn next_writers(
     log: &[u16],
     writes: &[u64; Transaction::TABLE],
+    earlier: &[u16; Transaction::TABLE],
     table: &mut [u8; Transaction::PAIRS],
 )
-    requires { ⌜ (log-refusal (now log) ≡ Passed) × WriteTable (now log) (now writes) × (now table ≡ replicate (129 * objects) 0) ⌝ }
+    requires { ⌜ (log-refusal (now log) ≡ Passed) × WriteTable (now log) (now writes) × CommitOrder (now log) (steps (now log)) (now earlier) × (now table ≡ replicate (129 * objects) 0) ⌝ }
     ensures { λ _. ⌜ NextWriters (now (log .entry)) (now (table .exit)) ⌝ }
 {
-    let mut j = log.len() / 4;
-    while 0 < j {
-        j -= 1;
-        let step = step_at(log, j);
-        if step.kind == Step::COMMIT {
-            let t = index(step.tx);
-            put_before(table, writes[t], t);
-        }
+    let mut t = earlier[0];
+    while t != 0 {
+        let at = index(t);
+        put_before(table, writes[at], at);
+        t = earlier[at];
     }
 }
 

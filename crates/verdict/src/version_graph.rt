@@ -117,11 +117,12 @@ fn version_learned(log: &[u16], found: Examined) -> Witnessed
     requires { ⌜ (log-refusal (now log) ≡ Passed) × Learned (now log) found ⌝ }
     ensures { λ r. ⌜ Holds (Version transactions (now (log .entry))) r ⌝ }
 {
+    let earlier = found.earlier;
     let writes = found.writes;
     let part = found.part;
     let clean = judge_clean(log, &part);
     let mut next = [0u8; Transaction::PAIRS];
-    next_writers(log, &writes, &mut next);
+    next_writers(log, &writes, &earlier, &mut next);
     judge_version(log, clean, part, &next)
 }
 

@@ -2,7 +2,7 @@
 use mathlib.Core.Path.{_≡_}
 use mathlib.Core.Bool.{true, false}
 use mathlib.Core.List.{List}
-use Prim.Native.Nat.{ℕ, suc, _≤_, _<_}
+use Prim.Native.Nat.{ℕ, zero, suc, _≤_, _<_}
 use lib.ListN.{length, getD}
 use Rattle.words.specs.Tests.{_is_, _below_, _upto_, _and_, fails, if_then_else_, some}
 use Rattle.graph.specs.Matrix.{takes-part}
@@ -48,6 +48,18 @@ module _ (log : List ℕ) where
     pub none : (t : ℕ) → t ≤ transactions → some i (does log k t) ≡ false → getD table t 0 ≡ steps log
     pub one : (t : ℕ) → t ≤ transactions → (j : ℕ) → j < i → does log k t j ≡ true → getD table t 0 ≡ j
 
+  -- the last to commit before step j, or 0
+  unfoldable pub committer : ℕ → ℕ
+  committer zero = 0
+  committer (suc j) = if kind log j is 4 then tx log j else committer j
+
+  -- the table has, for each who commits before step i, who committed before that; entry 0 has the last
+  pub record CommitOrder (i : ℕ) (table : List ℕ) : Type 0 where
+    pub size : length table ≡ suc transactions
+    pub last : getD table 0 0 ≡ committer i
+    pub before : (j : ℕ) → j < i → kind log j ≡ 4 → getD table (tx log j) 0 ≡ committer j
+    pub named : (j : ℕ) → j < i → kind log j ≡ 4 → 1 ≤ tx log j
+
   module _ (i : ℕ) where
     -- none of 3 to 6 applies to step i
     unfoldable pub InRange : Type 0
@@ -59,12 +71,13 @@ module _ (log : List ℕ) where
       pub far : (t : ℕ) → t ≤ transactions → getD lives t 0 ≡ life i t
       pub after-begin : (t : ℕ) → ended log i t ≡ true → begun log i t ≡ true
 
-    -- what is noted before step i: how far each has come, where each began and committed, who committed, and which versions are there
-    pub record Noted (lives begins commits part writes : List ℕ) : Type 0 where
+    -- what is noted before step i: how far each has come, where each began and committed, who committed, in which order, and which versions are there
+    pub record Noted (lives begins commits part earlier writes : List ℕ) : Type 0 where
       pub has-lived : Lived lives
       pub has-begun : StepsBefore 1 i begins
       pub has-committed : StepsBefore 4 i commits
       pub who-committed : (t : ℕ) → takes-part transactions part t ≡ some i (does log 4 t)
+      pub commit-order : CommitOrder i earlier
       pub has-written : Versions log i writes
       pub writes-size : length writes ≡ suc transactions
 
@@ -73,6 +86,7 @@ module _ (log : List ℕ) where
     pub begin-steps : FirstSteps log 1 (r .begins)
     pub commit-steps : FirstSteps log 4 (r .commits)
     pub who : Committed log (r .part)
+    pub order : CommitOrder (steps log) (r .earlier)
     pub marks : WriteTable log (r .writes)
 
   -- what is found of a log: its refusal, and what is learned where there is none

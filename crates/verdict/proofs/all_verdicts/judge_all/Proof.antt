@@ -11,9 +11,12 @@ clean c = c .before .before .before .before .before
 abbrev snapshot : tie.After-judge-exact → tie.After-judge-snapshot
 snapshot c = c .before .before .before .before .before
 
--- the entry
-abbrev entry : tie.After-judge-clean → tie.Start
-entry c = c .before .before .before .before .before .before .before .before .before .before
+-- what the check learned, from where the clean verdict is known, and the entry
+abbrev learned : tie.After-judge-clean → tie.After-writes
+learned c = c .before .before .before .before .before .before
+
+abbrev entry : tie.After-writes → tie.Start
+entry c = c .before .before .before .before .before .before
 
 next-writers-requires : tie.Need-next-writers-requires
 next-writers-requires c κs = search needs
@@ -33,7 +36,7 @@ judge-version-requires c κs = search needs
 judge-exact-requires : tie.Need-judge-exact-requires
 judge-exact-requires c κs =
     let judged = clean (c .before .before .before .before) in
-    let q = entry judged .pre in
+    let q = entry (learned judged) .pre in
     (q .0, judged .judge-clean .ensures, q .1 .who, q .1 .marks)
 
 returns : tie.Need-returns

@@ -8,9 +8,12 @@ use Rattle.verdict.proofs.HandedIn.{not-clean}
 use Rattle.verdict.proofs.following.after_order.Statement.{statement}
 use Rattle.verdict.proofs.following.after_order.Tie as tie
 
--- the entry and the clean verdict, each from where the next is known
-abbrev entry : tie.After-judge-clean → tie.Start
-entry c = c .before .before .before .before .before .before
+-- the entry, what the check learned and the clean verdict, each from where the next is known
+abbrev entry : tie.After-earlier → tie.Start
+entry c = c .before .before .before
+
+abbrev learned : tie.After-judge-clean → tie.After-earlier
+learned c = c .before .before .before .before
 
 abbrev judged : tie.After-enum-told2 → tie.After-judge-clean
 judged c = c .before .before
@@ -35,14 +38,14 @@ enum-told-2 : tie.Need-enum-told-2
 enum-told-2 c = search needs
 
 next-writers-requires : tie.Need-next-writers-requires
-next-writers-requires c κs = let q = entry (judged (c .before .before)) .pre in (q .0, q .1 .marks, refl)
+next-writers-requires c κs = let q = entry (learned (judged (c .before .before .before))) .pre in (q .0, q .1 .marks, q .1 .order, refl)
 
 in-version-graph-requires : tie.Need-in-version-graph-requires
 in-version-graph-requires c κs =
     let next = c .before in
-    let told = next .before .before .before in
+    let told = next .before .before .before .before in
     let j = judged told in
-    let q = entry j .pre in
+    let q = entry (learned j) .pre in
     (q .0, cleanness-clean _ (sym (j .judge-clean .ensures) ∙ told .enum-told2 .given .1), q .1 .who, next .next-writers .ensures)
 
 returns-2 : tie.Need-returns-2

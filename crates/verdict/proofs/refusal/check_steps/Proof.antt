@@ -16,10 +16,10 @@ use Rattle.verdict.proofs.refusal.check_steps.Statement.{statement}
 use Rattle.verdict.proofs.refusal.check_steps.Tie as tie
 
 abbrev Inv-loop : tie.InvT-loop
-Inv-loop log n none lives₀ begins₀ commits₀ part₀ writes₀ i₀ lives begins commits part writes i = (i ≤ n) × (n ≡ steps log) × (n ≤ most-steps) × (tried i (step-refusal log) ≡ Passed) × Noted log i lives begins commits part writes
+Inv-loop log n none lives₀ begins₀ commits₀ part₀ earlier₀ writes₀ i₀ lives begins commits part earlier writes i = (i ≤ n) × (n ≡ steps log) × (n ≤ most-steps) × (tried i (step-refusal log) ≡ Passed) × Noted log i lives begins commits part earlier writes
 
 abbrev μ-loop : tie.MeasureT-loop
-μ-loop log n none lives₀ begins₀ commits₀ part₀ writes₀ i₀ lives begins commits part writes i = n - i
+μ-loop log n none lives₀ begins₀ commits₀ part₀ earlier₀ writes₀ i₀ lives begins commits part earlier writes i = n - i
 
 -- the head of the loop, from where the tables are lent
 abbrev head : tie.After-writes Inv-loop μ-loop → tie.At-loop Inv-loop μ-loop
@@ -27,7 +27,7 @@ head c = c .before .before .before
 
 -- no number turns the step away
 abbrev checked : tie.After-writes2 Inv-loop μ-loop → tie.Else1 Inv-loop μ-loop
-checked c = c .before .before .before .before .before
+checked c = c .before .before .before .before .before .before
 
 passed : (c : tie.Else1 Inv-loop μ-loop) → let at = head (c .before .before) in step-refusal (at .before .before .args .log .now) (at .loop .i) ≡ Passed
 passed c = sym (c .before .step-number .ensures) ∙ numbered-none _ _ (c .if1 .left)

@@ -113,11 +113,26 @@ element-write-commits c = place-in (commit c)
 with-vertex-requires : tie.Need-with-vertex-requires
 with-vertex-requires c κs = search needs
 
+element-copy-out-earlier : tie.Need-element-copy-out-earlier
+element-copy-out-earlier c = search needs
+
+mul-earlier : tie.Need-mul-earlier
+mul-earlier c = search needs
+
+element-write-earlier : tie.Need-element-write-earlier
+element-write-earlier c = place-in (commit (c .before .before .before))
+
+cast-earlier : tie.Need-cast-earlier
+cast-earlier c = omega (arith, place-in (commit (c .before .before .before)))
+
+element-write-earlier-2 : tie.Need-element-write-earlier-2
+element-write-earlier-2 c = search needs
+
 returns-4 : tie.Need-returns-4
 returns-4 c =
-    let last = c .before .before in
+    let last = c .before .before .before in
     let here = commit last in
-    rw (tx-is here) (note-commit _ _ (entry here .pre .3) (entry here .pre .2) (sym (here .before .step-at .ensures .kind-is) ∙ last .if4 .taken) (rw (tx-is here) at (c .with-vertex .ensures)))
+    rw (tx-is here) (note-commit _ _ (entry here .pre .3) (entry here .pre .2) (sym (here .before .step-at .ensures .kind-is) ∙ last .if4 .taken) (rw (tx-is here) at (c .before .with-vertex .ensures)))
 
 returns-5 : tie.Need-returns-5
 returns-5 c =
@@ -153,5 +168,10 @@ note-step-spec =
     mul-commits
     element-write-commits
     with-vertex-requires
+    element-copy-out-earlier
+    mul-earlier
+    element-write-earlier
+    cast-earlier
+    element-write-earlier-2
     returns-4
     returns-5)

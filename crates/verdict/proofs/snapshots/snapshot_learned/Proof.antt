@@ -1,5 +1,5 @@
 -- `snapshot_learned` meets its contract.
-use mathlib.Core.Path.{_≡_, sym}
+use mathlib.Core.Path.{sym}
 use native.Mathlib.Omega.{arith}
 use Rattle.verdict.specs.Log.{steps}
 use Rattle.verdict.proofs.SnapshotLaws.{none-wrong}
