@@ -24,8 +24,6 @@ static unsigned step_refusal(const struct history *h, struct step s)
         return 0;
     if (s.source != 0 && !(h->wrote[s.source] >> s.object & 1))
         return 9;
-    if (s.source != s.tx && h->wrote[s.tx] >> s.object & 1)
-        return 10;
     return 0;
 }
 
@@ -37,6 +35,10 @@ static void note(struct history *h, struct step s, unsigned k)
         h->state[s.tx] = OPEN;
         h->begin[s.tx] = (uint16_t)k;
         break;
+    case READ:
+        if (s.source != s.tx && h->wrote[s.tx] >> s.object & 1 && h->missed[s.tx] == 0)
+            h->missed[s.tx] = (uint16_t)k;
+        break;
     case WRITE:
         h->wrote[s.tx] |= UINT64_C(1) << s.object;
         break;
@@ -44,6 +46,8 @@ static void note(struct history *h, struct step s, unsigned k)
         h->state[s.tx] = COMMITTED;
         h->end[s.tx] = (uint16_t)k;
         h->by_commit[h->committed++] = (uint8_t)s.tx;
+        if (h->missed[s.tx] != 0 && (h->own == 0 || h->missed[s.tx] < h->own))
+            h->own = h->missed[s.tx];
         break;
     case ABORT:
         h->state[s.tx] = ABORTED;

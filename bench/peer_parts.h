@@ -17,7 +17,7 @@ static inline uint64_t answer(uint64_t kind, uint64_t first, uint64_t second)
     return kind | first << 16 | second << 32;
 }
 
-/* A wrong read: its step, the writer that it should have found, and the step of that one's commit. */
+/* A wrong read: its step, the writer that it should have found, and the step of that one's commit, 0 for the reader itself. */
 static inline uint64_t wrong_read(uint64_t step, uint64_t writer, uint64_t commit)
 {
     return answer(KRUPOVESH_READ_AT, step, writer) | commit << 48;
@@ -102,10 +102,12 @@ struct history {
     const uint16_t *log;
     unsigned steps;
     unsigned committed;
+    unsigned own; /* the first read of a committed one that missed its own write; 0 if there is none */
     uint8_t by_commit[TRANSACTIONS]; /* the committed, in commit order */
     uint8_t state[TRANSACTIONS + 1];
     uint16_t begin[TRANSACTIONS + 1]; /* steps */
     uint16_t end[TRANSACTIONS + 1];
+    uint16_t missed[TRANSACTIONS + 1]; /* the first read that missed the transaction's own write; 0 if there is none */
     uint64_t wrote[TRANSACTIONS + 1]; /* bit x stands for object x */
 };
 

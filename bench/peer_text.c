@@ -131,11 +131,12 @@ static void put_line(struct pen *p, const char *key, uint64_t result, const uint
     case KRUPOVESH_NONE: put(p, "none"); break;
     case KRUPOVESH_ABORTED: put_number(p, witness == NULL ? "aborted at " : "unclean at ", first); break;
     case KRUPOVESH_UNFINAL: put_number(p, witness == NULL ? "unfinal at " : "unclean at ", first); break;
+    case KRUPOVESH_OWN: put_number(p, witness == NULL ? "own at " : "unclean at ", first); break;
     case KRUPOVESH_YES: put(p, "yes"); break;
     case KRUPOVESH_READ_AT:
         put_number(p, "read at ", first);
         put_number(p, " wants ", KRUPOVESH_SECOND(result));
-        if (KRUPOVESH_SECOND(result) != 0)
+        if (KRUPOVESH_THIRD(result) != 0)
             put_number(p, " from ", KRUPOVESH_THIRD(result));
         break;
     case KRUPOVESH_WRITE_AT:

@@ -21,6 +21,8 @@ uint64_t fault_of(const struct history *h)
         else if (later[s.source] >> s.object & 1)
             fault = answer(KRUPOVESH_UNFINAL, k, 0);
     }
+    if (h->own != 0 && (fault == 0 || h->own <= KRUPOVESH_FIRST(fault)))
+        return answer(KRUPOVESH_OWN, h->own, 0);
     return fault;
 }
 
@@ -52,6 +54,8 @@ uint64_t snapshot_answer(const struct history *h)
             memcpy(seen[s.tx], last, sizeof last);
         } else if (s.kind == READ) {
             unsigned right = seen[s.tx][s.object];
+            if (k == h->own)
+                return wrong_read(k, s.tx, 0);
             if (s.source != s.tx && s.source != right)
                 return wrong_read(k, right, right != 0 ? h->end[right] : 0);
         } else if (s.kind == COMMIT) {

@@ -100,10 +100,12 @@ static uint64_t answer_of(const struct expected *e, const char *value, uint64_t 
         return answer(KRUPOVESH_ABORTED, k, 0);
     if (sscanf(value, "unfinal at %u", &k) == 1)
         return answer(KRUPOVESH_UNFINAL, k, 0);
+    if (sscanf(value, "own at %u", &k) == 1)
+        return answer(KRUPOVESH_OWN, k, 0);
     if (sscanf(value, "read at %u wants %u from %u", &k, &t, &s) == 3)
         return wrong_read(k, t, s);
-    if (sscanf(value, "read at %u wants %u", &k, &t) == 2 && t == 0)
-        return wrong_read(k, 0, 0);
+    if (sscanf(value, "read at %u wants %u", &k, &t) == 2)
+        return wrong_read(k, t, 0);
     if (sscanf(value, "write at %u with %u", &k, &t) == 2)
         return answer(KRUPOVESH_WRITE_AT, k, t);
     if (sscanf(value, "unclean at %u", &k) == 1 && KRUPOVESH_FIRST(fault) == k)

@@ -14,9 +14,11 @@
  *     KRUPOVESH_NONE          0                        0                         0
  *     KRUPOVESH_ABORTED       step of the read         0                         0
  *     KRUPOVESH_UNFINAL       step of the read         0                         0
+ *     KRUPOVESH_OWN           step of the read         0                         0
  *     KRUPOVESH_YES           0                        0                         0
  *     KRUPOVESH_READ_AT       step of the read         the writer that it        step of that writer's commit,
- *                                                      should have found         or 0 for writer 0
+ *                                                      should have found         or 0 for writer 0 and
+ *                                                                                for the reader itself
  *     KRUPOVESH_WRITE_AT      step of the commit       the partner               0
  *     KRUPOVESH_ACCEPTED      steps read, or bytes     0                         0
  *                             written
@@ -50,6 +52,7 @@ extern "C" {
 #define KRUPOVESH_NONE 3
 #define KRUPOVESH_ABORTED 4
 #define KRUPOVESH_UNFINAL 5
+#define KRUPOVESH_OWN 6
 #define KRUPOVESH_YES 7
 #define KRUPOVESH_READ_AT 8
 #define KRUPOVESH_WRITE_AT 9
@@ -61,7 +64,7 @@ extern "C" {
 #define KRUPOVESH_SECOND(answer) ((uint16_t)((answer) >> 32))
 #define KRUPOVESH_THIRD(answer) ((uint16_t)((answer) >> 48))
 
-/* Refused, yes, aborted, unfinal. */
+/* Refused, yes, aborted, unfinal, own. */
 uint64_t krupovesh_clean(const uint16_t *log, size_t log_length, uint8_t *work, size_t work_length);
 
 /* Refused, yes, read at, write at. */
@@ -71,11 +74,11 @@ uint64_t krupovesh_snapshot(const uint16_t *log, size_t log_length, uint8_t *wor
 uint64_t krupovesh_conflict(const uint16_t *log, size_t log_length, uint8_t *work, size_t work_length,
                             uint16_t *witness, size_t witness_length);
 
-/* Refused, order, cycle, aborted, unfinal. */
+/* Refused, order, cycle, aborted, unfinal, own. */
 uint64_t krupovesh_version(const uint16_t *log, size_t log_length, uint8_t *work, size_t work_length,
                            uint16_t *witness, size_t witness_length);
 
-/* Refused, order, none, aborted, unfinal. */
+/* Refused, order, none, aborted, unfinal, own. */
 uint64_t krupovesh_exact(const uint16_t *log, size_t log_length, uint8_t *work, size_t work_length,
                          uint16_t *witness, size_t witness_length);
 

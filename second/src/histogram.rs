@@ -49,14 +49,16 @@ fn outcomes(sort: Sort, text: &[u8], report: &str) -> Vec<String> {
 }
 
 /// The first word of each verdict line, and some that come together. A wrong
-/// read wants the store's version or a transaction's.
+/// read wants the store's version, one that a transaction committed, or the
+/// reader's own.
 fn verdicts(report: &str) -> Vec<String> {
     let words = report
         .lines()
         .skip(2)
         .map(|line| match line.split_once(' ') {
             Some(("snapshot=read", rest)) if rest.ends_with(" wants 0") => "snapshot=read wants 0",
-            Some(("snapshot=read", _)) => "snapshot=read wants T",
+            Some(("snapshot=read", rest)) if rest.contains(" from ") => "snapshot=read wants T",
+            Some(("snapshot=read", _)) => "snapshot=read wants its own",
             Some((word, _)) => word,
             None => line,
         });
@@ -70,12 +72,16 @@ fn verdicts(report: &str) -> Vec<String> {
     met
 }
 
-/// Outcomes that come together; small logs are meant to reach the first four.
-const PAIRS: [&str; 8] = [
+/// Outcomes that come together; small logs are meant to reach the first eight.
+const PAIRS: [&str; 12] = [
     "snapshot=yes and version=cycle",
     "version=cycle and exact=order",
     "conflict=order and version=cycle",
     "conflict=cycle and version=order",
+    "clean=own and snapshot=read wants 0",
+    "clean=own and snapshot=read wants T",
+    "clean=own and snapshot=read wants its own",
+    "clean=own and snapshot=write",
     "version=unclean and exact=over",
     "version=cycle and exact=over",
     "clean=aborted and snapshot=write",
@@ -138,20 +144,22 @@ fn sort_of_place(text: &[u8], report: &str) -> &'static str {
 /// What the texts of a kind are meant to reach.
 fn wanted(sort: Sort) -> Vec<&'static str> {
     match sort {
-        Sort::Small => [&VERDICTS[..], &PAIRS[..4]].concat(),
+        Sort::Small => [&VERDICTS[..], &PAIRS[..8]].concat(),
         Sort::Damaged => DAMAGED.to_vec(),
         Sort::Texts => TEXTS.to_vec(),
         Sort::Limits => LIMITS.to_vec(),
     }
 }
 
-const VERDICTS: [&str; 16] = [
+const VERDICTS: [&str; 18] = [
     "clean=yes",
+    "clean=own",
     "clean=aborted",
     "clean=unfinal",
     "snapshot=yes",
     "snapshot=read wants 0",
     "snapshot=read wants T",
+    "snapshot=read wants its own",
     "snapshot=write",
     "conflict=order",
     "conflict=cycle",
@@ -164,14 +172,13 @@ const VERDICTS: [&str; 16] = [
     "exact=over",
 ];
 
-const DAMAGED: [&str; 8] = [
+const DAMAGED: [&str; 7] = [
     "refused=4",
     "refused=5",
     "refused=6",
     "refused=7",
     "refused=8",
     "refused=9",
-    "refused=10",
     "refused=11",
 ];
 
@@ -187,15 +194,17 @@ const TEXTS: [&str; 9] = [
     "refused=16 behind",
 ];
 
-const LIMITS: [&str; 28] = [
+const LIMITS: [&str; 30] = [
     "longest text",
     "steps=1024",
     "committed=128",
     "committed=8",
     "clean=yes",
+    "clean=own",
     "snapshot=yes",
     "snapshot=read wants 0",
     "snapshot=read wants T",
+    "snapshot=read wants its own",
     "snapshot=write",
     "conflict=order",
     "conflict=cycle of 2",

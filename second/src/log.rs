@@ -87,7 +87,7 @@ pub fn check(run: &[u16]) -> Result<Log, Refusal> {
 }
 
 /// The step with these numbers after the earlier ones, or the first of 3 to
-/// 10 that applies to it.
+/// 9 that applies to it.
 fn check_step(earlier: &[Step], numbers: &[u16]) -> Result<Step, u16> {
     let step = check_numbers(numbers)?;
     let begun = begins(earlier, step.tx);
@@ -97,13 +97,8 @@ fn check_step(earlier: &[Step], numbers: &[u16]) -> Result<Step, u16> {
     if step.kind != Kind::Begin && (!begun || is_ended(earlier, step.tx)) {
         return Err(8);
     }
-    if step.kind == Kind::Read {
-        if step.from != 0 && !wrote(earlier, step.from, step.obj) {
-            return Err(9);
-        }
-        if wrote(earlier, step.tx, step.obj) && step.from != step.tx {
-            return Err(10);
-        }
+    if step.kind == Kind::Read && step.from != 0 && !wrote(earlier, step.from, step.obj) {
+        return Err(9);
     }
     Ok(step)
 }
@@ -210,6 +205,11 @@ impl Log {
     /// The transaction writes the object in some step.
     pub fn writes(&self, tx: usize, obj: usize) -> bool {
         self.writes[tx][obj]
+    }
+
+    /// The transaction writes the object in a step earlier than step k.
+    pub fn wrote(&self, tx: usize, obj: usize, k: usize) -> bool {
+        wrote(&self.steps[..k], tx, obj)
     }
 
     /// The transaction writes the object in a step later than step k.

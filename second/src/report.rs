@@ -5,7 +5,7 @@ use std::io::{self, Write};
 use crate::log::{check, Log, Refusal};
 use crate::replay::{exact, Replay};
 use crate::text::read_run;
-use crate::verdicts::{clean, conflict, snapshot, version, Answer, Fault, Snapshot};
+use crate::verdicts::{clean, conflict, snapshot, version, Answer, Fault, Snapshot, Wanted};
 
 /// The log of a text, or the number that turns text or log away.
 pub fn log_of(text: &[u8]) -> Result<Log, Refusal> {
@@ -45,6 +45,7 @@ fn report_of(log: &Log) -> String {
 fn clean_words(fault: Option<Fault>) -> String {
     match fault {
         None => "yes".to_string(),
+        Some(Fault::Own(step)) => format!("own at {step}"),
         Some(Fault::Aborted(step)) => format!("aborted at {step}"),
         Some(Fault::Unfinal(step)) => format!("unfinal at {step}"),
     }
@@ -53,11 +54,18 @@ fn clean_words(fault: Option<Fault>) -> String {
 fn snapshot_words(snapshot: Snapshot) -> String {
     match snapshot {
         Snapshot::Yes => "yes".to_string(),
-        Snapshot::Read(step, None) => format!("read at {step} wants 0"),
-        Snapshot::Read(step, Some((writer, commit))) => {
-            format!("read at {step} wants {writer} from {commit}")
-        }
+        Snapshot::Read(step, wanted) => format!("read at {step} wants {}", wanted_words(wanted)),
         Snapshot::Write(step, partner) => format!("write at {step} with {partner}"),
+    }
+}
+
+/// The writer wanted, and where it committed; no step for writer 0 and for the
+/// reader itself.
+fn wanted_words(wanted: Wanted) -> String {
+    match wanted {
+        Wanted::Committed(None) => "0".to_string(),
+        Wanted::Committed(Some((writer, commit))) => format!("{writer} from {commit}"),
+        Wanted::Reader(reader) => reader.to_string(),
     }
 }
 

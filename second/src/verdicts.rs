@@ -6,6 +6,7 @@ use crate::log::{Kind, Log, Step, OBJECTS};
 /// What is wrong with the lowest faulty read, and its step.
 #[derive(Clone, Copy, Debug, PartialEq, Eq)]
 pub enum Fault {
+    Own(usize),
     Aborted(usize),
     Unfinal(usize),
 }
@@ -13,7 +14,7 @@ pub enum Fault {
 impl Fault {
     pub fn step(self) -> usize {
         match self {
-            Fault::Aborted(step) | Fault::Unfinal(step) => step,
+            Fault::Own(step) | Fault::Aborted(step) | Fault::Unfinal(step) => step,
         }
     }
 }
@@ -31,24 +32,36 @@ pub enum Answer {
 /// it committed; no writer where the store before the log is meant.
 pub type LastCommitted = Option<(usize, usize)>;
 
+/// What a wrong read should have found: the last committed writer, or after
+/// its own write of the object the reader itself.
+#[derive(Clone, Copy, Debug, PartialEq, Eq)]
+pub enum Wanted {
+    Committed(LastCommitted),
+    Reader(usize),
+}
+
 /// Yes, or the lowest faulty step: a read with what it should have found, or a
 /// commit with the partner.
 #[derive(Clone, Copy, Debug, PartialEq, Eq)]
 pub enum Snapshot {
     Yes,
-    Read(usize, LastCommitted),
+    Read(usize, Wanted),
     Write(usize, usize),
 }
 
-/// No fault when each judged read from another has source 0, or a committed
-/// source that writes the object in no later step.
+/// No fault when no judged read from another comes after the reader's own
+/// write of the object, and each has source 0, or a committed source that
+/// writes the object in no later step.
 pub fn clean(log: &Log) -> Option<Fault> {
     let reads = log.judged_reads_from_another();
     reads.iter().find_map(|&(k, read)| read_fault(log, k, read))
 }
 
+/// On one read own comes before aborted, and aborted before unfinal.
 fn read_fault(log: &Log, k: usize, read: Step) -> Option<Fault> {
-    if read.from == 0 {
+    if log.wrote(read.tx, read.obj, k) {
+        Some(Fault::Own(k))
+    } else if read.from == 0 {
         None
     } else if !log.is_committed(read.from) {
         Some(Fault::Aborted(k))
@@ -65,9 +78,12 @@ pub fn snapshot(log: &Log) -> Snapshot {
             continue;
         }
         if step.kind == Kind::Read && step.from != step.tx {
+            if log.wrote(step.tx, step.obj, k) {
+                return Snapshot::Read(k, Wanted::Reader(step.tx));
+            }
             let right = last_committed(log, log.begin_of(step.tx), step.obj);
             if step.from != right.map_or(0, |(writer, _)| writer) {
-                return Snapshot::Read(k, right);
+                return Snapshot::Read(k, Wanted::Committed(right));
             }
         }
         if step.kind == Kind::Commit {

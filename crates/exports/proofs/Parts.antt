@@ -4,16 +4,16 @@ use mathlib.Core.List.{List}
 use Prim.Native.Nat.{ℕ, suc, _/_, _%_, _≤_}
 use native.Mathlib.Omega.{arith}
 use Rattle.words.specs.Tests.{_is_, if_then_else_}
-use Rattle.words.proofs.Truth.{if-false, →isnt}
+use Rattle.words.proofs.Truth.{if-true, if-false, →is, →isnt}
 use Rattle.verdict.specs.Limits.{transactions, most-steps}
 use Rattle.verdict.specs.Snapshot.{snapshot-verdict}
 use Rattle.verdict.specs.Call.{turned-away, answered, CleanCall, SnapshotCall, ConflictCall, VersionCall, ExactCall, NextCall}
 use Rattle.verdict.specs.declared.answers.Fault.{Fault}
-use Rattle.verdict.specs.declared.answers.Fault.the-variants.{Aborted, Unfinal}
+use Rattle.verdict.specs.declared.answers.Fault.the-variants.{Own, Aborted, Unfinal}
 use Rattle.verdict.specs.declared.answers.Cleanness.the-variants as cleanness
 use Rattle.verdict.specs.declared.answers.Snapshot.the-variants as snapshot
 use Rattle.verdict.specs.declared.answers.Writer.{Writer}
-use Rattle.verdict.specs.declared.answers.Writer.the-variants.{Store, Committed}
+use Rattle.verdict.specs.declared.answers.Writer.the-variants.{Store, Committed, Reader}
 use Rattle.verdict.specs.declared.answers.Answer.the-variants as answer
 use Rattle.verdict.specs.declared.answers.CleanAnswer.{CleanAnswer}
 use Rattle.verdict.specs.declared.answers.CleanAnswer.the-variants as clean-answer
@@ -22,7 +22,7 @@ use Rattle.verdict.specs.declared.answers.SnapshotAnswer.the-variants as snapsh
 use Rattle.verdict.specs.declared.answers.WitnessAnswer.{WitnessAnswer}
 use Rattle.verdict.specs.declared.answers.WitnessAnswer.the-variants as witness-answer
 use Rattle.verdict.proofs.WellFormed.{else-try→}
-use Rattle.verdict.proofs.Bounds.{SnapshotUpto, read-upto, committed-upto, snapshot-few}
+use Rattle.verdict.proofs.Bounds.{WriterUpto, store-fine, committed-upto, reader-upto, SnapshotUpto, read-upto, snapshot-few}
 use Rattle.text.specs.ReadCall.{ReadCall}
 use Rattle.text.specs.ReportCall.{ReportCall}
 use Rattle.text.specs.WriteCall.{WriteCall}
@@ -97,7 +97,7 @@ apart : {A : Type 0} (numbers : A → Numbers) (back : Numbers → A) → ((a : 
 apart numbers back h {a} {b} e = sym (h a) ∙ ap back e ∙ h b
 
 fault-back : Numbers → Fault
-fault-back n = if n .kind is 4 then Aborted (n .first) else Unfinal (n .first)
+fault-back n = if n .kind is 4 then Aborted (n .first) else if n .kind is 5 then Unfinal (n .first) else Own (n .first)
 
 pub clean-numbers-one : {a b : CleanAnswer} → clean-numbers a ≡ clean-numbers b → a ≡ b
 unfolding clean-numbers fault-numbers fault-back if_then_else_ _is_
@@ -111,27 +111,34 @@ clean-numbers-one = apart clean-numbers back told
     told : (a : CleanAnswer) → back (clean-numbers a) ≡ a
     told (clean-answer.Refused n p) = refl
     told (clean-answer.Judged cleanness.Yes) = refl
+    told (clean-answer.Judged (cleanness.Unclean (Own k))) = refl
     told (clean-answer.Judged (cleanness.Unclean (Aborted k))) = refl
     told (clean-answer.Judged (cleanness.Unclean (Unfinal k))) = refl
 
--- a transaction that a wrong read should have found is not 0, which stands for the store
+-- a transaction that a wrong read should have found is not 0, which stands for the store, and the step of its commit is not 0, which stands for the reader
 abbrev pub Named : SnapshotAnswer → Type 0
-Named a = (k t s : ℕ) → a ≡ snapshot-answer.Judged (snapshot.Read k (Committed t s)) → 1 ≤ t
+Named a = (k : ℕ) (w : Writer) → a ≡ snapshot-answer.Judged (snapshot.Read k w) → WriterUpto most-steps (suc transactions) w
 
-upto-named : {n m k t s : ℕ} → SnapshotUpto n m (snapshot.Read k (Committed t s)) → 1 ≤ t
-upto-named (read-upto h (committed-upto o i j)) = o
+upto-named : {n m k : ℕ} {w : Writer} → SnapshotUpto n m (snapshot.Read k w) → WriterUpto n m w
+upto-named (read-upto h w) = w
 
 pub snapshot-named : (log work : List ℕ) {a : SnapshotAnswer} {work′ : List ℕ} → SnapshotCall log work a work′ → Named a
-snapshot-named log work (turned-away n p e x y) k t s h = let z : _≡_ {A = ℕ} 0 1 = cc in absurd (omega arith)
-snapshot-named log work (answered v e j x y) k t s h =
-    let z : snapshot-verdict transactions log ≡ snapshot.Read k (Committed t s) = cc in
+snapshot-named log work (turned-away n p e x y) k w h = let z : _≡_ {A = ℕ} 0 1 = cc in absurd (omega arith)
+snapshot-named log work (answered v e j x y) k w h =
+    let z : snapshot-verdict transactions log ≡ snapshot.Read k w = cc in
     upto-named {n = most-steps} {m = suc transactions} (rw z at (snapshot-few log (else-try→ (sym e) .1)))
 
 writer-back : Numbers → Writer
-writer-back n = if n .second is 0 then Store else Committed (n .second) (n .third)
+writer-back n = if n .second is 0 then Store else if n .third is 0 then Reader (n .second) else Committed (n .second) (n .third)
+
+writer-told : {n m : ℕ} (k : ℕ) {w : Writer} → WriterUpto n m w → writer-back (read-numbers k w) ≡ w
+unfolding read-numbers writer-back if_then_else_ _is_
+writer-told k store-fine = refl
+writer-told k (committed-upto {t} {s} o h p i) = if-false _ _ (→isnt {m = t} {n = 0} (λ z. omega (arith, z, o))) ∙ if-false _ _ (→isnt {m = s} {n = 0} (λ z. omega (arith, z, p)))
+writer-told k (reader-upto {t} o h) = if-false _ _ (→isnt {m = t} {n = 0} (λ z. omega (arith, z, o)))
 
 pub snapshot-numbers-one : {a b : SnapshotAnswer} → Named a → Named b → snapshot-numbers a ≡ snapshot-numbers b → a ≡ b
-unfolding snapshot-numbers read-numbers writer-back if_then_else_ _is_
+unfolding snapshot-numbers read-numbers if_then_else_ _is_
 snapshot-numbers-one {a} {b} f g e = sym (told a f) ∙ ap back e ∙ told b g
   where
     back : Numbers → SnapshotAnswer
@@ -140,13 +147,16 @@ snapshot-numbers-one {a} {b} f g e = sym (told a f) ∙ ap back e ∙ told b g
         else if n .kind is 7 then snapshot-answer.Judged snapshot.Yes
         else if n .kind is 8 then snapshot-answer.Judged (snapshot.Read (n .first) (writer-back n)) else snapshot-answer.Judged (snapshot.Write (n .first) (n .second))
 
+    -- a wrong read is told by its kind, its step and its writer
+    read-told : (k : ℕ) (w : Writer) → back (read-numbers k w) ≡ snapshot-answer.Judged (snapshot.Read k (writer-back (read-numbers k w)))
+    read-told k Store = refl
+    read-told k (Committed t s) = refl
+    read-told k (Reader t) = refl
+
     told : (a : SnapshotAnswer) → Named a → back (snapshot-numbers a) ≡ a
     told (snapshot-answer.Refused n p) f = refl
     told (snapshot-answer.Judged snapshot.Yes) f = refl
-    told (snapshot-answer.Judged (snapshot.Read k Store)) f = refl
-    told (snapshot-answer.Judged (snapshot.Read k (Committed t s))) f =
-        let h : 1 ≤ t = f k t s refl in
-        ap (λ (w : Writer). snapshot-answer.Judged (snapshot.Read k w)) (if-false _ _ (→isnt (λ (z : t ≡ 0). omega arith)))
+    told (snapshot-answer.Judged (snapshot.Read k w)) f = read-told k w ∙ ap (λ (v : Writer). snapshot-answer.Judged (snapshot.Read k v)) (writer-told k (f k w refl))
     told (snapshot-answer.Judged (snapshot.Write k t)) f = refl
 
 pub witness-numbers-one : {a b : WitnessAnswer} → witness-numbers a ≡ witness-numbers b → a ≡ b
@@ -165,6 +175,7 @@ witness-numbers-one = apart witness-numbers back told
     told (witness-answer.Judged (answer.Order n)) = refl
     told (witness-answer.Judged (answer.Cycle n)) = refl
     told (witness-answer.Judged answer.None) = refl
+    told (witness-answer.Judged (answer.Unclean (Own k))) = refl
     told (witness-answer.Judged (answer.Unclean (Aborted k))) = refl
     told (witness-answer.Judged (answer.Unclean (Unfinal k))) = refl
 

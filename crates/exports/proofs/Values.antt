@@ -12,11 +12,11 @@ use Rattle.verdict.specs.Call.{Call, turned-away, answered, said-judged, CleanC
 use Rattle.verdict.specs.declared.answers.Checked.{Checked}
 use Rattle.verdict.specs.declared.answers.Checked.the-variants.{Passed, Refused}
 use Rattle.verdict.specs.declared.answers.Fault.{Fault}
-use Rattle.verdict.specs.declared.answers.Fault.the-variants.{Aborted, Unfinal}
+use Rattle.verdict.specs.declared.answers.Fault.the-variants.{Own, Aborted, Unfinal}
 use Rattle.verdict.specs.declared.answers.Cleanness.{Cleanness}
 use Rattle.verdict.specs.declared.answers.Cleanness.the-variants as cleanness-is
 use Rattle.verdict.specs.declared.answers.Writer.{Writer}
-use Rattle.verdict.specs.declared.answers.Writer.the-variants.{Store, Committed}
+use Rattle.verdict.specs.declared.answers.Writer.the-variants.{Store, Committed, Reader}
 use Rattle.verdict.specs.declared.answers.Snapshot.{Snapshot}
 use Rattle.verdict.specs.declared.answers.Snapshot.the-variants as snapshot-is
 use Rattle.verdict.specs.declared.answers.CleanAnswer.{CleanAnswer}
@@ -25,7 +25,7 @@ use Rattle.verdict.specs.declared.answers.SnapshotAnswer.{SnapshotAnswer}
 use Rattle.verdict.specs.declared.answers.SnapshotAnswer.the-variants as snapshot-answer
 use Rattle.verdict.specs.declared.answers.WitnessAnswer.{WitnessAnswer}
 use Rattle.verdict.proofs.WellFormed.{else-try→}
-use Rattle.verdict.proofs.Bounds.{Within, within-else, log-within, work-within, witness-within, order-within, search-within, list-within, FaultUpto, aborted-upto, unfinal-upto, WriterUpto, store-fine, committed-upto, SnapshotUpto, snapshot-fine, read-upto, write-upto, OutcomeUpto, order-upto, cycle-upto, none-fine, unclean-upto, fault-few, snapshot-few, conflict-few, version-few, exact-few, next-few}
+use Rattle.verdict.proofs.Bounds.{Within, within-else, log-within, work-within, witness-within, order-within, search-within, list-within, FaultUpto, own-upto, aborted-upto, unfinal-upto, WriterUpto, store-fine, committed-upto, reader-upto, SnapshotUpto, snapshot-fine, read-upto, write-upto, OutcomeUpto, order-upto, cycle-upto, none-fine, unclean-upto, fault-few, snapshot-few, conflict-few, version-few, exact-few, next-few}
 use Rattle.text.specs.ReadCall.{said-steps, ReadCall}
 use Rattle.text.specs.ReportCall.{said-length, ReportCall}
 use Rattle.text.specs.Text.{text-of}
@@ -76,6 +76,7 @@ call-short numbers f g (answered a e v x y) = rw x (g a e v)
 -- THE VERDICTS
 fault-short : (f : Fault) → FaultUpto most-steps f → Short (fault-numbers f)
 unfolding fault-numbers
+fault-short (Own k) (own-upto h) = short (omega arith) (omega arith) (omega arith)
 fault-short (Aborted k) (aborted-upto h) = short (omega arith) (omega arith) (omega arith)
 fault-short (Unfinal k) (unfinal-upto h) = short (omega arith) (omega arith) (omega arith)
 
@@ -87,7 +88,8 @@ cleanness-short (cleanness-is.Unclean f) few = fault-short f (few f refl)
 wrong-read-short : (k : ℕ) (w : Writer) → k ≤ most-steps → WriterUpto most-steps (suc transactions) w → Short (read-numbers k w)
 unfolding read-numbers
 wrong-read-short k Store h store-fine = short (omega arith) (omega arith) (omega arith)
-wrong-read-short k (Committed t s) h (committed-upto o i j) = short-three (omega arith) (omega arith) (omega arith) (omega arith)
+wrong-read-short k (Committed t s) h (committed-upto o i p j) = short-three (omega arith) (omega arith) (omega arith) (omega arith)
+wrong-read-short k (Reader t) h (reader-upto o i) = short (omega arith) (omega arith) (omega arith)
 
 snapshot-says : (s : Snapshot) → SnapshotUpto most-steps (suc transactions) s → Short (snapshot-numbers (snapshot-answer.Judged s))
 unfolding snapshot-numbers

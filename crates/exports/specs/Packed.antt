@@ -1,5 +1,5 @@
 -- The one number that a C call answers: its low 16 bits are the kind of answer, then come three values of 16 bits, 0 where there is none.
--- The kinds: 0 refused, 1 order, 2 cycle, 3 none, 4 aborted, 5 unfinal, 7 yes, 8 read at, 9 write at, 10 accepted.
+-- The kinds: 0 refused, 1 order, 2 cycle, 3 none, 4 aborted, 5 unfinal, 6 own, 7 yes, 8 read at, 9 write at, 10 accepted.
 use mathlib.Core.Path.{_≡_}
 use Prim.Native.Nat.{ℕ, _+_, _*_}
 use Rattle.verdict.specs.declared.answers.Fault.{Fault}
@@ -27,6 +27,7 @@ abbrev pub _with_and_ : ℕ → ℕ → ℕ → Numbers
 k with a and b = k with a and b then 0
 
 unfoldable pub fault-numbers : Fault → Numbers
+fault-numbers (Fault.Own k) = 6 with k and 0
 fault-numbers (Fault.Aborted k) = 4 with k and 0
 fault-numbers (Fault.Unfinal k) = 5 with k and 0
 
@@ -35,10 +36,11 @@ clean-numbers (CleanAnswer.Refused number place) = 0 with number and place
 clean-numbers (CleanAnswer.Judged Cleanness.Yes) = 7 with 0 and 0
 clean-numbers (CleanAnswer.Judged (Cleanness.Unclean f)) = fault-numbers f
 
--- a wrong read: its step, the writer that it should have found, and the step of that one's commit
+-- a wrong read: its step, the writer that it should have found, and the step of that one's commit, 0 for the reader itself
 unfoldable pub read-numbers : ℕ → Writer → Numbers
 read-numbers k Writer.Store = 8 with k and 0
 read-numbers k (Writer.Committed t s) = 8 with k and t then s
+read-numbers k (Writer.Reader t) = 8 with k and t
 
 unfoldable pub snapshot-numbers : SnapshotAnswer → Numbers
 snapshot-numbers (SnapshotAnswer.Refused number place) = 0 with number and place

@@ -25,6 +25,8 @@ const ABORTED: u64 = 4;
 
 const UNFINAL: u64 = 5;
 
+const OWN: u64 = 6;
+
 const YES: u64 = 7;
 
 const READ_AT: u64 = 8;
@@ -47,6 +49,7 @@ fn pack_fault(fault: Fault) -> u64
     ensures { λ r. ⌜ r ≡ packed (fault-numbers fault) ⌝ }
 {
     match fault {
+        Fault::Own(k) => pack(OWN, k as u64, 0, 0),
         Fault::Aborted(k) => pack(ABORTED, k as u64, 0, 0),
         Fault::Unfinal(k) => pack(UNFINAL, k as u64, 0, 0),
     }
@@ -74,6 +77,7 @@ fn pack_read(k: usize, writer: Writer) -> u64
     match writer {
         Writer::Store => pack(READ_AT, k as u64, 0, 0),
         Writer::Committed(t, s) => pack(READ_AT, k as u64, t as u64, s as u64),
+        Writer::Reader(t) => pack(READ_AT, k as u64, t as u64, 0),
     }
 }
 

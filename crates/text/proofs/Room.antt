@@ -15,14 +15,14 @@ use Rattle.verdict.specs.Snapshot.{snapshot-verdict}
 use Rattle.verdict.specs.Outcome.{Outcome, order, cycle, none, unclean}
 use Rattle.verdict.specs.declared.answers.Checked.the-variants.{Passed, Refused}
 use Rattle.verdict.specs.declared.answers.Fault.{Fault}
-use Rattle.verdict.specs.declared.answers.Fault.the-variants.{Aborted, Unfinal}
+use Rattle.verdict.specs.declared.answers.Fault.the-variants.{Own, Aborted, Unfinal}
 use Rattle.verdict.specs.declared.answers.Cleanness.{Cleanness}
 use Rattle.verdict.specs.declared.answers.Cleanness.the-variants as cleanness-is
 use Rattle.verdict.specs.declared.answers.Writer.{Writer}
-use Rattle.verdict.specs.declared.answers.Writer.the-variants.{Store, Committed}
+use Rattle.verdict.specs.declared.answers.Writer.the-variants.{Store, Committed, Reader}
 use Rattle.verdict.specs.declared.answers.Snapshot.{Snapshot}
 use Rattle.verdict.specs.declared.answers.Snapshot.the-variants as snapshot-is
-use Rattle.verdict.proofs.Bounds.{Within, within-when, log-within, FaultUpto, aborted-upto, unfinal-upto, WriterUpto, store-fine, committed-upto, SnapshotUpto, snapshot-fine, read-upto, write-upto, MembersUpto, OutcomeUpto, order-upto, cycle-upto, none-fine, unclean-upto, few-committed, fault-few, snapshot-few, conflict-few, version-few, exact-few}
+use Rattle.verdict.proofs.Bounds.{Within, within-when, log-within, FaultUpto, own-upto, aborted-upto, unfinal-upto, WriterUpto, store-fine, committed-upto, reader-upto, SnapshotUpto, snapshot-fine, read-upto, write-upto, MembersUpto, OutcomeUpto, order-upto, cycle-upto, none-fine, unclean-upto, few-committed, fault-few, snapshot-few, conflict-few, version-few, exact-few}
 use Rattle.verdict.proofs.WellFormed.{steps-within}
 use Rattle.text.specs.Bytes.{bytes, blank, line-end}
 use Rattle.text.specs.Decimal.{decimal}
@@ -62,13 +62,14 @@ committed-length n h = omega (arith, number-item (bytes "committed=") line-end n
 wants-length : (w : Writer) → WriterUpto most-steps (suc transactions) w → length (wants w) ≤ 21
 unfolding wants bytes
 wants-length Store store-fine = omega arith
-wants-length (Committed t s) (committed-upto o h i) =
+wants-length (Committed t s) (committed-upto o h p i) =
     omega (
       arith,
       length-append (item (bytes "wants ") (decimal t) blank) (item (bytes "from ") (decimal s) line-end),
       number-item (bytes "wants ") blank t (omega arith),
       number-item (bytes "from ") line-end s (omega arith),
     )
+wants-length (Reader t) (reader-upto o h) = omega (arith, number-item (bytes "wants ") line-end t (omega arith))
 
 -- NUMBERS, A BLANK BEFORE EACH
 numbers-length : (w : List ℕ) → ((t : ℕ) → member t w ≡ true → t < 1000) → length (numbers w) ≤ 4 * length w
@@ -92,11 +93,13 @@ outcome-length key a h k = omega (arith, item-length key (value a) line-end)
 -- the step of a fault, in the lines that tell it
 fault-length : (f : Fault) → FaultUpto most-steps f → length (clean-line (cleanness-is.Unclean f)) ≤ most-short
 unfolding clean-line bytes
+fault-length (Own k) (own-upto h) = omega (arith, number-item (bytes "clean=own at ") line-end k (omega arith))
 fault-length (Aborted k) (aborted-upto h) = omega (arith, number-item (bytes "clean=aborted at ") line-end k (omega arith))
 fault-length (Unfinal k) (unfinal-upto h) = omega (arith, number-item (bytes "clean=unfinal at ") line-end k (omega arith))
 
 unclean-length : (f : Fault) → FaultUpto most-steps f → length (value (unclean f)) ≤ most-value
 unfolding value bytes fault-step
+unclean-length (Own k) (own-upto h) = omega (arith, four-digits k (omega arith))
 unclean-length (Aborted k) (aborted-upto h) = omega (arith, four-digits k (omega arith))
 unclean-length (Unfinal k) (unfinal-upto h) = omega (arith, four-digits k (omega arith))
 

@@ -19,16 +19,18 @@ refused-line number place = item (bytes "refused=") (decimal number) blank ++ it
 unfoldable pub committed-line : ℕ → List ℕ
 committed-line n = item (bytes "committed=") (decimal n) line-end
 
--- `clean=`: yes, aborted at K, unfinal at K
+-- `clean=`: yes, own at K, aborted at K, unfinal at K
 unfoldable pub clean-line : Cleanness → List ℕ
 clean-line Cleanness.Yes = bytes "clean=yes\n"
+clean-line (Cleanness.Unclean (Fault.Own k)) = item (bytes "clean=own at ") (decimal k) line-end
 clean-line (Cleanness.Unclean (Fault.Aborted k)) = item (bytes "clean=aborted at ") (decimal k) line-end
 clean-line (Cleanness.Unclean (Fault.Unfinal k)) = item (bytes "clean=unfinal at ") (decimal k) line-end
 
--- behind a wrong read: wants T from S, where S is the step of T's commit; wants 0, if the store's version was right
+-- behind a wrong read: wants T from S, where S is the step of T's commit; wants 0, if the store's version was right; wants T, if the reader's own was
 unfoldable pub wants : Writer → List ℕ
 wants Writer.Store = bytes "wants 0\n"
 wants (Writer.Committed t s) = item (bytes "wants ") (decimal t) blank ++ item (bytes "from ") (decimal s) line-end
+wants (Writer.Reader t) = item (bytes "wants ") (decimal t) line-end
 
 -- `snapshot=`: yes, read at K wants T from S, write at K with T
 unfoldable pub snapshot-line : Snapshot → List ℕ

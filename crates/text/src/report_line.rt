@@ -38,6 +38,7 @@ pub(crate) fn put_clean(out: &mut [u8], at: usize, clean: Cleanness) -> usize
     match clean {
         Cleanness::Yes => put_word(out, at, b"clean=yes\n"),
         Cleanness::Unclean(fault) => match fault {
+            Fault::Own(k) => put_item(out, at, b"clean=own at ", k, b'\n'),
             Fault::Aborted(k) => put_item(out, at, b"clean=aborted at ", k, b'\n'),
             Fault::Unfinal(k) => put_item(out, at, b"clean=unfinal at ", k, b'\n'),
         },
@@ -55,6 +56,7 @@ fn put_wants(out: &mut [u8], at: usize, writer: Writer) -> usize
             let a = put_item(out, at, b"wants ", t as usize, b' ');
             put_item(out, a, b"from ", s, b'\n')
         }
+        Writer::Reader(t) => put_item(out, at, b"wants ", t as usize, b'\n'),
     }
 }
 
@@ -90,6 +92,7 @@ fn step_of(fault: Fault) -> usize
     ensures { λ r. ⌜ r ≡ fault-step fault ⌝ }
 {
     match fault {
+        Fault::Own(k) => k,
         Fault::Aborted(k) => k,
         Fault::Unfinal(k) => k,
     }

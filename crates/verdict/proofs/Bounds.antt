@@ -6,37 +6,37 @@ use mathlib.Core.Logic.{⊎-elim}
 use Prim.Native.Nat.{ℕ, zero, suc, _≤_, _<_}
 use native.Mathlib.Omega.{arith}
 use lib.ListN.{length}
-use Rattle.words.specs.Tests.{_below_, if_then_else_, some, count, lowest}
+use Rattle.words.specs.Tests.{_below_, if_then_else_, some, count, lowest, highest}
 use Rattle.words.specs.Lists.{member, all}
 use Rattle.words.specs.First.{later}
 use Rattle.graph.specs.Order.{once-each, is-order}
 use Rattle.graph.specs.Cycle.{is-cycle}
 use Rattle.verdict.specs.Outcome.{order, cycle, Outcome, none, unclean, OfGraph, shows-order, shows-cycle}
 use Rattle.graph.specs.Shows as shows
-use Rattle.words.proofs.Truth.{decide, to-false, and→, below→, not-below→, if-true, if-false, lowest-bound, count-above}
+use Rattle.words.proofs.Truth.{decide, to-true, to-false, and→, is→, below→, not-below→, if-true, if-false, some→, lowest-is, lowest-bound, highest-is, highest-none, count-above}
 use Rattle.words.proofs.Places.{all→}
 use Rattle.graph.proofs.Judge.{nodes, nodes-length, there-node, once-over, once-length, cycle-over, cycle-length}
 use Rattle.verdict.specs.Limits.{transactions, most-steps}
-use Rattle.verdict.specs.Log.{steps, tx, obj, src, begins, committed, committed-count, aborted, begin-step}
+use Rattle.verdict.specs.Log.{steps, kind, tx, obj, src, begins, begun, committed, committed-count, aborted, begin-step, commits-writer}
 use Rattle.verdict.specs.declared.answers.Checked.{Checked}
 use Rattle.verdict.specs.declared.answers.Checked.the-variants.{Passed, Refused}
 use Rattle.verdict.specs.Refusal.{_at_when_, _else-try_, tried, range-refusal, life-refusal, source-refusal, step-refusal, open-refusal, log-refusal, search-refusal, work-refusal, witness-refusal, order-refusal}
 use Rattle.verdict.specs.declared.answers.Fault.{Fault}
-use Rattle.verdict.specs.declared.answers.Fault.the-variants.{Aborted, Unfinal}
+use Rattle.verdict.specs.declared.answers.Fault.the-variants.{Own, Aborted, Unfinal}
 use Rattle.verdict.specs.declared.answers.Cleanness.the-variants.{Yes, Unclean}
-use Rattle.verdict.specs.Clean.{is-clean, faulty-read, fault-at, cleanness}
+use Rattle.verdict.specs.Clean.{after-own-write, is-clean, faulty-read, fault-at, cleanness}
 use Rattle.verdict.specs.declared.answers.Snapshot.{Snapshot}
 use Rattle.verdict.specs.declared.answers.Snapshot.the-variants as snapshot-is
 use Rattle.verdict.specs.declared.answers.Snapshot.the-variants.{Read, Write}
 use Rattle.verdict.specs.declared.answers.Writer.{Writer}
-use Rattle.verdict.specs.declared.answers.Writer.the-variants.{Store, Committed}
+use Rattle.verdict.specs.declared.answers.Writer.the-variants.{Store, Committed, Reader}
 use Rattle.verdict.specs.Snapshot.{snapshot-step, last-commit, last-committed, wanted, clash, wrong-read, wrong-step, snapshot-fault, snapshot-verdict}
 use Rattle.verdict.specs.Conflict.{conflict-edge, Conflict}
 use Rattle.verdict.specs.Version.{version-edge, Version, version, version-unclean}
 use Rattle.verdict.specs.Replay.{serial}
 use Rattle.verdict.specs.Exact.{Exact, exact, exact-none, exact-unclean}
 use Rattle.verdict.specs.Next.{Next, next, next-none, list-refusal}
-use Rattle.verdict.proofs.WellFormed.{refused≢passed, when→, steps-within, Well, well-formed}
+use Rattle.verdict.proofs.WellFormed.{refused≢passed, when→, steps-within, begun-before, Well, well-formed}
 use Rattle.verdict.proofs.Cleanly.{cleanness-clean, clean≢unclean}
 use Rattle.verdict.proofs.Versions.{not-zero}
 use Rattle.verdict.proofs.Computed.{loosely-serial, explains-serial, conflict-ends, version-ends}
@@ -68,7 +68,7 @@ step-within log i h =
     (within-else _ _ (within-when 3 i _ (omega arith) h) (λ t. within-else _ _ (within-when 4 i _ (omega arith) h) (λ t. within-else _ _ (within-when 5 i _ (omega arith) h) (λ t. within-when 6 i _ (omega arith) h))))
     (λ t. within-else _ _
     (within-else _ _ (within-when 7 i _ (omega arith) h) (λ t. within-when 8 i _ (omega arith) h))
-    (λ t. within-else _ _ (within-when 9 i _ (omega arith) h) (λ t. within-when 10 i _ (omega arith) h)))
+    (λ t. within-when 9 i _ (omega arith) h))
 
 pub log-within : (log : List ℕ) → Within (log-refusal log)
 unfolding log-refusal open-refusal
@@ -98,13 +98,15 @@ list-within most log given = within-when 14 0 _ (omega arith) (omega arith)
 -- ANSWERS
 -- a fault at a step up to n
 pub data FaultUpto (n : ℕ) : Fault → Type 0 where
+  own-upto : {k : ℕ} → k ≤ n → FaultUpto n (Own k)
   aborted-upto : {k : ℕ} → k ≤ n → FaultUpto n (Aborted k)
   unfinal-upto : {k : ℕ} → k ≤ n → FaultUpto n (Unfinal k)
 
--- the store, or a transaction from 1 up to m with a step up to n
+-- the store, a transaction from 1 up to m with a step from 1 up to n, or the reader from 1 up to m
 pub data WriterUpto (n m : ℕ) : Writer → Type 0 where
   store-fine : WriterUpto n m Store
-  committed-upto : {t s : ℕ} → 1 ≤ t → t ≤ m → s ≤ n → WriterUpto n m (Committed t s)
+  committed-upto : {t s : ℕ} → 1 ≤ t → t ≤ m → 1 ≤ s → s ≤ n → WriterUpto n m (Committed t s)
+  reader-upto : {t : ℕ} → 1 ≤ t → t ≤ m → WriterUpto n m (Reader t)
 
 -- a wrong step up to n, and such a writer, or a partner up to m
 pub data SnapshotUpto (n m : ℕ) : Snapshot → Type 0 where
@@ -176,7 +178,7 @@ module _ (log : List ℕ) (well : log-refusal log ≡ Passed) where
   -- the step of a fault
   pub fault-few : {f : Fault} → cleanness log ≡ Unclean f → FaultUpto most-steps f
   unfolding cleanness fault-at if_then_else_
-  fault-few {f} e = go (is-clean log) (aborted log (src log k)) e
+  fault-few {f} e = go (is-clean log) (after-own-write log k) (aborted log (src log k)) e
     where
       k : ℕ
       k = lowest (steps log) (faulty-read log)
@@ -184,14 +186,15 @@ module _ (log : List ℕ) (well : log-refusal log ≡ Passed) where
       low : k ≤ most-steps
       low = omega (arith, lowest-bound {n = steps log} (faulty-read log), steps-within log well)
 
-      go : (b c : Bool) → (if b then Yes else Unclean (if c then Aborted k else Unfinal k)) ≡ Unclean f → FaultUpto most-steps f
-      go true c e = absurd (clean≢unclean refl e)
-      go false true e = let z : Aborted k ≡ f = cc in rw (← z) (aborted-upto low)
-      go false false e = let z : Unfinal k ≡ f = cc in rw (← z) (unfinal-upto low)
+      go : (b o c : Bool) → (if b then Yes else Unclean (if o then Own k else if c then Aborted k else Unfinal k)) ≡ Unclean f → FaultUpto most-steps f
+      go true o c e = absurd (clean≢unclean refl e)
+      go false true c e = let z : Own k ≡ f = cc in rw (← z) (own-upto low)
+      go false false true e = let z : Aborted k ≡ f = cc in rw (← z) (aborted-upto low)
+      go false false false e = let z : Unfinal k ≡ f = cc in rw (← z) (unfinal-upto low)
 
-  wanted-few : (i : ℕ) → WriterUpto most-steps (suc transactions) (wanted log i)
-  unfolding wanted last-committed snapshot-step begin-step if_then_else_
-  wanted-few i = go (s below b) (λ e. below→ e)
+  wanted-few : (i : ℕ) → i < steps log → WriterUpto most-steps (suc transactions) (wanted log i)
+  unfolding wanted last-committed last-commit snapshot-step begin-step commits-writer begun if_then_else_
+  wanted-few i h = go (after-own-write log i) (s below b) (λ e. below→ e)
     where
       b : ℕ
       b = snapshot-step log (tx log i)
@@ -202,16 +205,25 @@ module _ (log : List ℕ) (well : log-refusal log ≡ Passed) where
       within : b ≤ steps log
       within = lowest-bound (begins log (tx log i))
 
-      go : (v : Bool) → (v ≡ true → s < b) → WriterUpto most-steps (suc transactions) (if v then Committed (tx log s) s else Store)
-      go true f =
+      -- who commits has begun before
+      not-first : s < b → 1 ≤ s
+      not-first h =
+          let found = highest-is b (commits-writer log (obj log i)) (to-true _ (λ n. let z : s ≡ b = highest-none b (commits-writer log (obj log i)) n in omega arith)) in
+          let k : kind log s ≡ 4 = is→ (and→ (found .1) .0) in
+          let r = some→ (begun-before log well s (omega (arith, within)) (λ (z : kind log s ≡ 1). omega arith)) in
+          omega (arith, r .1)
+
+      go : (o v : Bool) → (v ≡ true → s < b) → WriterUpto most-steps (suc transactions) (if o then Reader (tx log i) else if v then Committed (tx log s) s else Store)
+      go true v f = let r = formed .range i h in reader-upto (r .0) (omega (arith, r .1))
+      go false true f =
           let h : s < b = f refl in
           let r = formed .range s (omega (arith, within)) in
-          committed-upto {s = s} (r .0) (omega (arith, r .1)) (omega (arith, within, steps-within log well))
-      go false f = store-fine
+          committed-upto {s = s} (r .0) (omega (arith, r .1)) (not-first h) (omega (arith, within, steps-within log well))
+      go false false f = store-fine
 
   pub snapshot-few : SnapshotUpto most-steps (suc transactions) (snapshot-verdict transactions log)
   unfolding snapshot-verdict snapshot-fault if_then_else_
-  snapshot-few = go (some (steps log) (wrong-step transactions log)) (wrong-read log k)
+  snapshot-few = go (some (steps log) (wrong-step transactions log)) (wrong-read log k) (λ e. lowest-is {n = steps log} (wrong-step transactions log) e .0)
     where
       k : ℕ
       k = lowest (steps log) (wrong-step transactions log)
@@ -222,10 +234,10 @@ module _ (log : List ℕ) (well : log-refusal log ≡ Passed) where
       low : k ≤ most-steps
       low = omega (arith, lowest-bound {n = steps log} (wrong-step transactions log), steps-within log well)
 
-      go : (b c : Bool) → SnapshotUpto most-steps (suc transactions) (if b then if c then Read k (wanted log k) else Write k t else snapshot-is.Yes)
-      go true true = read-upto low (wanted-few k)
-      go true false = write-upto low (lowest-bound (clash log k))
-      go false c = snapshot-fine
+      go : (b c : Bool) → (b ≡ true → k < steps log) → SnapshotUpto most-steps (suc transactions) (if b then if c then Read k (wanted log k) else Write k t else snapshot-is.Yes)
+      go true true f = read-upto low (wanted-few k (f refl))
+      go true false f = write-upto low (lowest-bound (clash log k))
+      go false c f = snapshot-fine
 
   pub conflict-few : {a : Outcome} → Conflict transactions log a → OutcomeUpto most-steps transactions a
   conflict-few = shown-few (conflict-edge log) (conflict-ends log formed)

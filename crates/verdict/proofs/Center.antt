@@ -9,12 +9,13 @@ use Rattle.words.specs.Tests.{_is_, _below_, _or_}
 use Rattle.words.specs.Lists.{member, distinct, before}
 use Rattle.graph.specs.Order.{once-each, keeps}
 use Rattle.verdict.specs.Log.{steps, kind, tx, obj, src, reads, writes, committed, writer, commit-step}
-use Rattle.verdict.specs.Clean.{judged, judged-other, final-source, faulty-read, is-clean}
+use Rattle.verdict.specs.Clean.{judged, judged-other, is-clean}
 use Rattle.verdict.specs.Version.{versions-from, next-version, version-edge}
 use Rattle.verdict.specs.Inner.VersionEdges.{from-writer, from-source, from-reader, plain-version}
 use Rattle.verdict.specs.Replay.{serial, finds, reads-right, writers-in-order, explains-loosely, explains}
 use Rattle.words.proofs.Truth.{decide, not-both, to-true, and→, →and, or→, →or-left, →or-right, fails→, →fails, implies→, →implies, is→, →is, isnt→, →isnt, below→, →below, not-below→, some→, →some, none→, every→, →every}
 use Rattle.words.proofs.Places.{all→, →all, before-left, before-irreflexive, before-trans, before-asym, before-total}
+use Rattle.verdict.proofs.Cleanly.{source-committed}
 use Rattle.verdict.proofs.WellFormed.{Well}
 use Rattle.verdict.proofs.Versions.{not-zero, Wrote, Following, versions-from-zero, versions-from-other, share, shared, committed-range, commit-injective, next→, →next}
 use Rattle.verdict.proofs.Replayed.{Last, None, finds-cases}
@@ -233,13 +234,7 @@ module _ {most : ℕ} (log : List ℕ) (well : Well most log) (w : List ℕ) (se
 
       -- a source other than 0 is a committed writer of the object
       source : (src log i ≡ 0 → ⊥) → Wrote log (obj log i) (src log i)
-      unfolding is-clean faulty-read final-source
-      source z =
-          record {
-            commit = ⊎-elim (λ (k : (src log i is 0) ≡ true). absurd (z (is→ k))) (λ k. and→ k .0)
-                (or→ (to-true (final-source log i) (λ k. not-both (→and j (→fails k)) (none→ _ (fails→ clean) i h))));
-            write = well .source i h (read .kind-2) z;
-          }
+      source z = record { commit = source-committed log clean i h j z; write = well .source i h (read .kind-2) z }
 
       source-before : (src log i ≡ 0 → ⊥) → before (src log i) (tx log i) w ≡ true
       unfolding from-source judged-other

@@ -9,12 +9,13 @@ use Rattle.words.specs.Tests.{_is_, _and_, _or_, some}
 use Rattle.words.proofs.Truth.{not-both, to-true, same-test, and→, →and, or→, →or-left, →or-right, →fails, fails→, is→, →is, isnt→, →isnt, some→, →some, none→}
 use Rattle.verdict.specs.Limits.{objects}
 use Rattle.verdict.specs.Log.{steps, kind, tx, obj, src, reads, writes, committed, writer}
-use Rattle.verdict.specs.Clean.{judged, judged-other, final-source, faulty-read, is-clean}
+use Rattle.verdict.specs.Clean.{judged, judged-other, is-clean}
 use Rattle.verdict.specs.Dependency.{some-dependency}
 use Rattle.verdict.specs.Conflict.{meet, conflict-on, conflict-edge}
 use Rattle.verdict.specs.Version.{writer-to-next, source-to-reader, reader-to-next, version-on, version-edge}
 use Rattle.verdict.specs.Inner.ConflictEdges.{touches, meet-somehow, plain-conflict}
 use Rattle.verdict.specs.Inner.VersionEdges.{from-writer, from-source, from-reader, plain-version}
+use Rattle.verdict.proofs.Cleanly.{source-committed}
 use Rattle.verdict.proofs.WellFormed.{Well}
 use Rattle.verdict.proofs.Versions.{next→}
 
@@ -232,7 +233,7 @@ module _ {most : ℕ} (log : List ℕ) (well : Well most log) (a b : ℕ) where
     plain = sym plain-version-edge ∙ edge
 
     pub version-leaves : is-clean log ≡ true → committed log a ≡ true
-    unfolding plain-version from-writer from-source from-reader judged judged-other faulty-read final-source is-clean
+    unfolding plain-version from-writer from-source from-reader judged judged-other
     version-leaves clean = ⊎-elim (λ k. ⊎-elim (λ l. and→ l .0) source (or→ k)) reader (or→ (and→ plain .1))
       where
         source : from-source log a b ≡ true → committed log a ≡ true
@@ -244,8 +245,7 @@ module _ {most : ℕ} (log : List ℕ) (well : Well most log) (a b : ℕ) where
             let n : a ≡ b → ⊥ = isnt→ (fails→ (and→ (and→ (and→ plain .0) .0) .0)) in
             let z : a ≡ 0 → ⊥ = isnt→ (fails→ (and→ (and→ (and→ plain .0) .0) .1)) in
             let j : judged-other log i ≡ true = →and (and→ (and→ (r .2) .0) .0) (→fails (→isnt (λ (l : src log i ≡ tx log i). n (sym e ∙ l ∙ f)))) in
-            rw e at (⊎-elim (λ (l : (src log i is 0) ≡ true). absurd (z (sym e ∙ is→ l))) (λ l. and→ l .0)
-            (or→ (to-true (final-source log i) (λ l. not-both (→and j (→fails l)) (none→ _ (fails→ clean) i (r .1))))))
+            rw e at (source-committed log clean i (r .1) j (λ (l : src log i ≡ 0). z (sym e ∙ l)))
 
         reader : from-reader log a b ≡ true → committed log a ≡ true
         reader k = let r = some→ k in rw (is→ {m = tx log (r .0)} {n = a} (and→ (and→ (r .2) .0) .1)) at (and→ (and→ (and→ (r .2) .0) .0) .1)

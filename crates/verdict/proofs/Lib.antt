@@ -16,7 +16,8 @@ pub mod NextWriters
 pub mod FirstSteps
 pub mod Filled
 pub mod SnapshotLaws
-pub mod WrongReads
+pub mod StaleReads
+pub mod OwnReads
 pub mod Clashing
 pub mod Loosely
 pub mod Placements

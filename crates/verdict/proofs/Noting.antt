@@ -6,7 +6,7 @@ use mathlib.Core.List.{List}
 use Prim.Native.Nat.{ℕ, suc, _+_, _≤_}
 use native.Mathlib.Omega.{arith}
 use lib.ListN.{getD, set, replicate, length-set, length-replicate}
-use Rattle.words.specs.Tests.{_is_, _below_, _upto_, _and_, _or_, if_then_else_, some}
+use Rattle.words.specs.Tests.{_is_, _below_, _upto_, _and_, _or_, if_then_else_, some, lowest}
 use Rattle.words.proofs.Truth.{same-test, and→, →and, and-no-left, and-no-right, →none, or→, →or-left, →or-right, is→, →is, →isnt, →below, →upto, if-true, to-false, not-both, →some, some→, some-skip, some-next}
 use Rattle.bits.specs.Word.{more}
 use Rattle.graph.specs.Matrix.{takes-part}
@@ -14,7 +14,8 @@ use Rattle.graph.proofs.TwoWords.{no-member}
 use Rattle.verdict.specs.Limits.{transactions}
 use Rattle.verdict.specs.Log.{steps, kind, tx, obj, begins, commits, begun, ended, writes, writer, committed}
 use Rattle.verdict.specs.Refusal.{tried, step-refusal}
-use Rattle.verdict.specs.Inner.Marks.{does}
+use Rattle.verdict.specs.Clean.{own-fault}
+use Rattle.verdict.specs.Inner.Marks.{does, Committed}
 use Rattle.verdict.specs.Inner.Checking.{Noted, Learned}
 use Rattle.verdict.specs.declared.refusal.Examined.{Examined}
 use Rattle.verdict.specs.declared.answers.Checked.the-variants.{Passed}
@@ -124,14 +125,20 @@ module _ (log : List ℕ) (i : ℕ) {l b c p o w : List ℕ} (noted : Noted log 
   }
 
 -- what is noted after the last step is what is to be learned
-pub all-learned : (log : List ℕ) {l w : List ℕ} {r : Examined} → Noted log (steps log) l (r .begins) (r .commits) (r .part) (r .earlier) w → r .writes ≡ set w 0 0 → tried (steps log) (step-refusal log) ≡ Passed → Learned log r
-unfolding does committed commits writer writes
-all-learned log {w} noted e passed = record {
+pub who-learned : (log : List ℕ) {l b c p o w : List ℕ} → Noted log (steps log) l b c p o w → Committed log p
+unfolding does committed commits
+who-learned log noted = record { mark = noted .who-committed }
+
+pub all-learned : (log : List ℕ) {l w : List ℕ} {r : Examined} → Noted log (steps log) l (r .begins) (r .commits) (r .part) (r .earlier) w → r .writes ≡ set w 0 0
+    → r .own ≡ lowest (steps log) (own-fault log) → tried (steps log) (step-refusal log) ≡ Passed → Learned log r
+unfolding writer writes
+all-learned log {w} noted e own passed = record {
   begin-steps = steps-all log 1 (noted .has-begun);
   commit-steps = steps-all log 4 (noted .has-committed);
-  who = record { mark = noted .who-committed };
+  who = who-learned log noted;
   order = noted .commit-order;
   marks = rw e (all-written log (omega (arith, noted .writes-size)) nobody (noted .has-written));
+  first-own = own;
 }
   where
     -- no step is one of transaction 0

@@ -1,4 +1,4 @@
--- The numbers 1, 2 and 7 to 11, from the answers to the questions that decide them.
+-- The numbers 1, 2, 7 to 9 and 11, from the answers to the questions that decide them.
 use mathlib.Core.Path.{_≡_, _∙_}
 use mathlib.Core.Bool.{true, false}
 use mathlib.Core.Logic.{_⊎_, ⊎-elim}
@@ -41,28 +41,19 @@ module _ (log : List ℕ) (i : ℕ) where
     unfolding life-refusal
     under-way b e = first-no 7 i _ not-7 ∙ when-no 8 i (and-no-right _ (or-no _ e ∙ →not-fails b))
 
-  -- 9 and 10
+  -- 9
   pub no-read : (kind log i ≡ 2 → ⊥) → source-refusal log i ≡ Passed
   unfolding source-refusal
-  no-read k = first-no 9 i _ (and-no-left _ (and-no-left _ (→isnt k))) ∙ when-no 10 i (and-no-left _ (and-no-left _ (→isnt k)))
+  no-read k = when-no 9 i (and-no-left _ (and-no-left _ (→isnt k)))
 
   module _ (k : kind log i ≡ 2) where
     pub never-wrote : (src log i ≡ 0 → ⊥) → wrote log i (src log i) (obj log i) ≡ false → source-refusal log i ≡ Refused 9 i
     unfolding source-refusal
-    never-wrote z w = first-yes 9 i _ (→and (→and (→is k) (→fails (→isnt z))) (→fails w))
+    never-wrote z w = when-yes 9 i (→and (→and (→is k) (→fails (→isnt z))) (→fails w))
 
-    -- the source is 0, or wrote the object
-    module _ (there : (src log i ≡ 0) ⊎ (wrote log i (src log i) (obj log i) ≡ true)) where
-      not-9 : (kind log i is 2 and fails (src log i is 0) and fails (wrote log i (src log i) (obj log i))) ≡ false
-      not-9 = ⊎-elim (λ z. and-no-left _ (and-no-right _ (→not-fails (→is z)))) (λ w. and-no-right _ (→not-fails w)) there
-
-      pub own-write-passed : (src log i ≡ tx log i → ⊥) → wrote log i (tx log i) (obj log i) ≡ true → source-refusal log i ≡ Refused 10 i
-      unfolding source-refusal
-      own-write-passed n w = first-no 9 i _ not-9 ∙ when-yes 10 i (→and (→and (→is k) w) (→fails (→isnt n)))
-
-      pub source-right : (src log i ≡ tx log i) ⊎ (wrote log i (tx log i) (obj log i) ≡ false) → source-refusal log i ≡ Passed
-      unfolding source-refusal
-      source-right o = first-no 9 i _ not-9 ∙ when-no 10 i (⊎-elim (λ e. and-no-right _ (→not-fails (→is e))) (λ w. and-no-left _ (and-no-right _ w)) o)
+    pub source-there : (src log i ≡ 0) ⊎ (wrote log i (src log i) (obj log i) ≡ true) → source-refusal log i ≡ Passed
+    unfolding source-refusal
+    source-there t = when-no 9 i (⊎-elim (λ z. and-no-left _ (and-no-right _ (→not-fails (→is z)))) (λ w. and-no-right _ (→not-fails w)) t)
 
 -- 11, by how far each has come
 module _ (lives : List ℕ) (t : ℕ) where

@@ -18,11 +18,11 @@ use Rattle.verdict.specs.declared.answers.Checked.{Checked}
 use Rattle.verdict.specs.declared.answers.Checked.the-variants.{Passed, Refused}
 use Rattle.verdict.specs.Refusal.{_at_when_, _else-try_, tried, object-allowed, source-allowed, range-refusal, life-refusal, source-refusal, step-refusal, open-refusal, log-refusal}
 use Rattle.verdict.specs.declared.answers.Fault.{Fault}
-use Rattle.verdict.specs.declared.answers.Fault.the-variants.{Aborted, Unfinal}
+use Rattle.verdict.specs.declared.answers.Fault.the-variants.{Own, Aborted, Unfinal}
 use Rattle.verdict.specs.declared.answers.Cleanness.{Cleanness}
 use Rattle.verdict.specs.declared.answers.Cleanness.the-variants.{Yes, Unclean}
-use Rattle.verdict.specs.Clean.{judged, judged-other, writes-later, final-source, faulty-read, is-clean, fault-at, cleanness}
-use Rattle.verdict.specs.declared.answers.Writer.the-variants.{Store, Committed}
+use Rattle.verdict.specs.Clean.{judged, judged-other, after-own-write, writes-later, final-source, own-fault, source-fault, faulty-read, is-clean, fault-at, cleanness}
+use Rattle.verdict.specs.declared.answers.Writer.the-variants.{Store, Committed, Reader}
 use Rattle.verdict.specs.declared.answers.Snapshot.{Snapshot}
 use Rattle.verdict.specs.declared.answers.Snapshot.the-variants as snapshot-is
 use Rattle.verdict.specs.declared.answers.Snapshot.the-variants.{Read, Write}
@@ -159,8 +159,16 @@ table =
     -- ours: a transaction that reads and then writes has no edge to itself
     ∷ sample (b 1 (r 1 x 0 (w 1 x (c 1 [])))) []
     (answered Yes snapshot-is.Yes (ordered 1′) (ordered 1′) (order 1′) (1′ ∷ []) (1′ ∷ []) [])
+    -- a read that misses its own write
+    ∷ sample (b 1 (w 1 x (r 1 x 0 (c 1 [])))) (1′ ∷ [] ∷ [])
+    (answered (Unclean (Own 2)) (Read 2 (Reader 1)) (ordered 1′) (fault (Own 2)) (unclean (Own 2)) [] [] (none ∷ none ∷ []))
+    -- ours: the same, of a transaction that aborts
+    ∷ sample (b 1 (w 1 x (r 1 x 0 (a 1 [])))) ([] ∷ [])
+    (answered Yes snapshot-is.Yes (ordered []) (ordered []) (order []) ([] ∷ []) ([] ∷ []) (no-order ∷ []))
+    -- ours: on one read own comes before aborted
+    ∷ sample (b 2 (w 2 x (b 1 (w 1 x (r 1 x 2 (c 1 (a 2 []))))))) (1′ ∷ [])
+    (answered (Unclean (Own 4)) (Read 4 (Reader 1)) (ordered 1′) (fault (Own 4)) (unclean (Own 4)) [] [] (none ∷ []))
     -- turned away
-    ∷ sample (b 1 (w 1 x (r 1 x 0 (c 1 [])))) [] (turned-away 10 2)
     ∷ sample (b 1 (r 1 x 1 (c 1 []))) [] (turned-away 9 1)
     ∷ sample (b 1 []) [] (turned-away 11 1)
     ∷ []
@@ -172,7 +180,7 @@ unfolding b r w c a sample ordered ring no-order fault 1′ 12′ 21′ 123′ 1
     member all distinct before zeros entries handed dictionary shorter later once-each keeps is-order leads is-cycle
     steps kind tx obj src begins reads writes commits aborts committed aborted writer write-one-object begin-step commit-step commits-writer committed-count
     _at_when_ _else-try_ tried object-allowed source-allowed begun ended wrote range-refusal life-refusal source-refusal step-refusal open-refusal log-refusal
-    judged judged-other writes-later final-source faulty-read is-clean fault-at cleanness
+    judged judged-other after-own-write writes-later final-source own-fault source-fault faulty-read is-clean fault-at cleanness
     writer-number snapshot-step last-commit last-committed wanted wrong-read overlap clash wrong-commit wrong-step snapshot-fault snapshot-verdict
     touches meet-somehow plain-conflict versions-from next-commit next-version from-writer from-source from-reader plain-version
     finds reads-right writers-in-order serial explains-loosely explains up-to-zero from-zero list-refusal

@@ -11,11 +11,11 @@ use Rattle.words.specs.Tests.{_below_, if_then_else_, some, lowest, highest}
 use Rattle.words.proofs.Truth.{decide, not-both, to-false, and→, →and, and-no-left, and-no-right, →or-left, →or-right, or-false, →is, is→, →isnt, →below, →not-below, if-true, if-false, some→, →some, none→, →none, none-next, lowest-is, lowest-none, lowest-at, lowest-passes, lowest-bound, below-lowest, highest-yes, highest-no, highest-is, highest-none}
 use Rattle.verdict.specs.Limits.{transactions, objects}
 use Rattle.verdict.specs.Log.{steps, kind, tx, obj, begins, writes, committed, commits, writer, begin-step, commit-step, commits-writer}
-use Rattle.verdict.specs.Clean.{judged-other}
+use Rattle.verdict.specs.Clean.{judged-other, after-own-write}
 use Rattle.verdict.specs.declared.step.Step.{Step}
 use Rattle.verdict.specs.declared.answers.Snapshot.the-variants.{Yes, Read, Write}
 use Rattle.verdict.specs.declared.answers.Writer.{Writer}
-use Rattle.verdict.specs.declared.answers.Writer.the-variants.{Store, Committed}
+use Rattle.verdict.specs.declared.answers.Writer.the-variants.{Store, Committed, Reader}
 use Rattle.verdict.specs.Snapshot.{writer-number, snapshot-step, last-commit, last-committed, wanted, wrong-read, overlap, clash, wrong-commit, wrong-step, snapshot-fault, snapshot-verdict}
 use Rattle.verdict.specs.Inner.StepAt.{StepAt}
 use Rattle.verdict.specs.Inner.Marks.{does, FirstSteps}
@@ -69,10 +69,15 @@ module _ (log : List ℕ) (i : ℕ) where
   unfolding wrong-read
   not-wrong j = and-no-left _ j
 
-  -- what it should have found: who committed last before b, where its transaction begins
-  pub wanted-there : {s : Step} {b : ℕ} {r : Writer} → StepAt log i s → b ≡ lowest (steps log) (does log 1 (s .tx)) → r ≡ last-committed log b (s .obj) → r ≡ wanted log i
+  -- what it should have found: the reader itself after its own write
+  pub wanted-own : {s : Step} → StepAt log i s → after-own-write log i ≡ true → Reader (s .tx) ≡ wanted log i
+  unfolding wanted
+  wanted-own step w = ap Reader (step .tx-is) ∙ sym (if-true _ _ w)
+
+  -- .. and else who committed last before b, where its transaction begins
+  pub wanted-there : {s : Step} {b : ℕ} {r : Writer} → StepAt log i s → after-own-write log i ≡ false → b ≡ lowest (steps log) (does log 1 (s .tx)) → r ≡ last-committed log b (s .obj) → r ≡ wanted log i
   unfolding wanted snapshot-step begin-step begins does
-  wanted-there step e f = f ∙ rw (e, step .tx-is, step .obj-is) refl
+  wanted-there step w e f = f ∙ rw (e, step .tx-is, step .obj-is) refl ∙ sym (if-false _ _ w)
 
 -- A CLASH
 module _ (log : List ℕ) (j p : ℕ) where

@@ -129,7 +129,7 @@ module _ (log : List ℕ) (well : log-refusal log ≡ Passed) where
 
     test-9 : (kind log i is 2 and fails (src log i is 0) and fails (wrote log i (src log i) (obj log i))) ≡ false
     unfolding step-refusal source-refusal
-    test-9 = when→ 9 i _ (else-try→ (else-try→ (else-try→ (step-taken i h) .1) .1) .0)
+    test-9 = when→ 9 i _ (else-try→ (else-try→ (step-taken i h) .1) .1)
 
     -- a source other than 0 wrote the object in an earlier step
     source-wrote : kind log i ≡ 2 → (src log i ≡ 0 → ⊥) → writer log (obj log i) (src log i) ≡ true

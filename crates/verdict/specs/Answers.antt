@@ -2,10 +2,10 @@
 pub use Rattle.verdict.specs.declared.answers.Checked.{Checked}
 pub use Rattle.verdict.specs.declared.answers.Checked.the-variants.{Passed, Refused}
 pub use Rattle.verdict.specs.declared.answers.Fault.{Fault}
-pub use Rattle.verdict.specs.declared.answers.Fault.the-variants.{Aborted, Unfinal}
+pub use Rattle.verdict.specs.declared.answers.Fault.the-variants.{Own, Aborted, Unfinal}
 pub use Rattle.verdict.specs.declared.answers.Cleanness.{Cleanness}
 pub use Rattle.verdict.specs.declared.answers.Writer.{Writer}
-pub use Rattle.verdict.specs.declared.answers.Writer.the-variants.{Store, Committed}
+pub use Rattle.verdict.specs.declared.answers.Writer.the-variants.{Store, Committed, Reader}
 pub use Rattle.verdict.specs.declared.answers.Snapshot.{Snapshot}
 pub use Rattle.verdict.specs.declared.answers.Snapshot.the-variants.{Read, Write}
 pub use Rattle.verdict.specs.declared.answers.Answer.{Answer}

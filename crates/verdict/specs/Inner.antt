@@ -2,7 +2,9 @@
 pub mod StepAt
 pub mod Marks
 pub mod WriteTable
+pub mod OwnReads
 pub mod Checking
+pub mod StaleReads
 pub mod Clashes
 pub mod Edges
 pub mod ConflictEdges

@@ -49,17 +49,13 @@ module _ (log : List ℕ) where
       7 at i when k is 1 and begun log i t
       else-try 8 at i when fails (k is 1) and (fails (begun log i t) or ended log i t)
 
-  -- 9 and 10: the source is not 0 and wrote the object in no earlier step; after its own write of the object a reader names another source
+  -- 9: the source is not 0 and wrote the object in no earlier step
   unfoldable pub source-refusal : ℕ → Checked
   source-refusal i =
-      let k = kind log i in
-      let t = tx log i in
-      let x = obj log i in
       let s = src log i in
-      9 at i when k is 2 and fails (s is 0) and fails (wrote log i s x)
-      else-try 10 at i when k is 2 and wrote log i t x and fails (s is t)
+      9 at i when kind log i is 2 and fails (s is 0) and fails (wrote log i s (obj log i))
 
-  -- 3 to 10, all of them on one step
+  -- 3 to 9, all of them on one step
   unfoldable pub step-refusal : ℕ → Checked
   step-refusal i = range-refusal i (kind log i) (tx log i) (obj log i) (src log i) else-try life-refusal i else-try source-refusal i
 

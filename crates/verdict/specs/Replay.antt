@@ -9,7 +9,7 @@ use Rattle.verdict.specs.Log.{steps, tx, obj, src, committed, writer, wr
 use Rattle.verdict.specs.Clean.{judged-other, is-clean}
 
 module _ (log : List ℕ) where
-  -- what r finds of x when w is run: the last writer of x that ran before r, or v if none did
+  -- what r finds of x when w is run: the last writer of x that ran before r, or v if none did. In a clean log no read from another comes after r's own write
   unfoldable pub finds : ℕ → ℕ → ℕ → List ℕ → ℕ
   finds x r v [] = v
   finds x r v (t ∷ w) = if t is r then v else finds x r (if writer log x t then t else v) w

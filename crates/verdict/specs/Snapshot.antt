@@ -4,13 +4,14 @@ use mathlib.Core.List.{List}
 use Prim.Native.Nat.{ℕ, suc}
 use Rattle.words.specs.Tests.{_is_, _below_, _and_, _or_, fails, if_then_else_, some, lowest, highest}
 use Rattle.verdict.specs.Log.{steps, kind, tx, obj, src, committed, begin-step, commit-step, commits-writer, write-one-object}
-use Rattle.verdict.specs.Clean.{judged-other}
-use Rattle.verdict.specs.Answers.{Writer, Store, Committed, Snapshot, Read, Write}
+use Rattle.verdict.specs.Clean.{judged-other, after-own-write}
+use Rattle.verdict.specs.Answers.{Writer, Store, Committed, Reader, Snapshot, Read, Write}
 
 -- a writer's number: the store is writer 0
 unfoldable pub writer-number : Writer → ℕ
 writer-number Store = 0
 writer-number (Committed t s) = t
+writer-number (Reader t) = t
 
 module _ (log : List ℕ) where
   -- where t's snapshot lies: the step at which it begins
@@ -25,9 +26,9 @@ module _ (log : List ℕ) where
   unfoldable pub last-committed : ℕ → ℕ → Writer
   last-committed b x = if last-commit b x below b then Committed (tx log (last-commit b x)) (last-commit b x) else Store
 
-  -- what read i should have found: the last committed writer of its object before its transaction's snapshot
+  -- what read i should have found: after its own write the reader itself, else the last committed writer of its object before its transaction's snapshot
   unfoldable pub wanted : ℕ → Writer
-  wanted i = last-committed (snapshot-step (tx log i)) (obj log i)
+  wanted i = if after-own-write log i then Reader (tx log i) else last-committed (snapshot-step (tx log i)) (obj log i)
 
   -- a judged read from another that names anyone else
   unfoldable pub wrong-read : ℕ → Bool

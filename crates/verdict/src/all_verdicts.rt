@@ -48,11 +48,11 @@ fn judge_all(log: &[u16], found: Examined) -> Judgement
     let writes = found.writes;
     let mut next = [0u8; Transaction::PAIRS];
     next_writers(log, &writes, &earlier, &mut next);
-    let clean = judge_clean(log, &part);
+    let clean = judge_clean(log, &part, found.own);
     Judgement {
         checked: Checked::Passed,
         clean,
-        snapshot: judge_snapshot(log, &begins, &commits, &writes, &next),
+        snapshot: judge_snapshot(log, &begins, &commits, &writes, &next, found.own),
         conflict: judge_conflict(log, part),
         version: judge_version(log, clean, part, &next),
         exact: judge_exact(log, clean, part, &writes),

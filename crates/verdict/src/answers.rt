@@ -9,6 +9,7 @@ pub enum Checked {
 
 // What is wrong with a read, and at which step.
 pub enum Fault {
+    Own(usize),
     Aborted(usize),
     Unfinal(usize),
 }
@@ -19,10 +20,11 @@ pub enum Cleanness {
     Unclean(Fault),
 }
 
-// Who wrote a version: the store before the log began, which is writer 0, or a transaction, with the step of its commit.
+// Who wrote a version: the store before the log began, which is writer 0; a transaction, with the step of its commit; or the reader itself.
 pub enum Writer {
     Store,
     Committed(u16, usize),
+    Reader(u16),
 }
 
 // The snapshot verdict: yes, a wrong read at a step with the writer that it should have found, or a wrong write at a step with its partner.

@@ -1,4 +1,5 @@
-// The clean verdict: whether every judged read is from a committed source that writes the object in no later step.
+// The clean verdict: whether every judged read is from a committed source that writes the object in no later step, and from the reader itself after its own
+// write.
 use crate::answers::Checked;
 use crate::answers::CleanAnswer;
 use crate::answers::Cleanness;
@@ -17,7 +18,7 @@ ghost use lib.ListN.{length};
 ghost use Rattle.words.specs.Tests.{lowest};
 ghost use Rattle.verdict.specs.Log.{steps};
 ghost use Rattle.verdict.specs.Refusal.{log-refusal};
-ghost use Rattle.verdict.specs.Clean.{faulty-read, cleanness};
+ghost use Rattle.verdict.specs.Clean.{own-fault, source-fault, cleanness};
 ghost use Rattle.verdict.specs.Call.{CleanCall};
 ghost use Rattle.verdict.specs.Inner.Marks.{Committed};
 ghost use Rattle.verdict.specs.Inner.WriteTable.{WritesFrom};
@@ -32,7 +33,7 @@ fn is_faulty(
 ) -> bool
     requires { ⌜ (log-refusal (now log) ≡ Passed) × (4 * i + 4 ≤ length (now log)) × Committed (now log) (now part)
         × WritesFrom (now log) (suc i) (now later) ⌝ }
-    ensures { λ r. ⌜ r ≡ faulty-read (now (log .entry)) i ⌝ }
+    ensures { λ r. ⌜ r ≡ source-fault (now (log .entry)) i ⌝ }
 {
     let step = step_at(log, i);
     if step.kind != Step::READ {
@@ -55,11 +56,11 @@ fn is_faulty(
     object_marked(later, s, step.obj)
 }
 
-// The lowest faulty step, or the number of steps where there is none, by who committed. It is the last one found on the way from the last
+// The lowest step whose source is faulty, or the number of steps where there is none, by who committed. It is the last one found on the way from the last
 // step to the first, where marks say what each transaction writes later.
 fn first_fault(log: &[u16], part: &[u64; graph::WORDS]) -> usize
     requires { ⌜ (log-refusal (now log) ≡ Passed) × Committed (now log) (now part) ⌝ }
-    ensures { λ r. ⌜ r ≡ lowest (steps (now (log .entry))) (faulty-read (now (log .entry))) ⌝ }
+    ensures { λ r. ⌜ r ≡ lowest (steps (now (log .entry))) (source-fault (now (log .entry))) ⌝ }
 {
     let mut later = [0u64; Transaction::TABLE];
     let mut i = log.len() / 4;
@@ -77,15 +78,18 @@ fn first_fault(log: &[u16], part: &[u64; graph::WORDS]) -> usize
     fault
 }
 
-// The clean verdict of a well-formed log, by who committed.
-pub(crate) fn judge_clean(log: &[u16], part: &[u64; graph::WORDS]) -> Cleanness
-    requires { ⌜ (log-refusal (now log) ≡ Passed) × Committed (now log) (now part) ⌝ }
+// The clean verdict of a well-formed log, by who committed and the first own fault.
+pub(crate) fn judge_clean(log: &[u16], part: &[u64; graph::WORDS], own: usize) -> Cleanness
+    requires { ⌜ (log-refusal (now log) ≡ Passed) × Committed (now log) (now part) × (own ≡ lowest (steps (now log)) (own-fault (now log))) ⌝ }
     ensures { λ r. ⌜ r ≡ cleanness (now (log .entry)) ⌝ }
 {
     let n = log.len() / 4;
     let k = first_fault(log, part);
-    if n <= k {
-        return Cleanness::Yes;
+    if own <= k {
+        if n <= own {
+            return Cleanness::Yes;
+        }
+        return Cleanness::Unclean(Fault::Own(own));
     }
     let step = step_at(log, k);
     if takes_part(part, step.src) {
@@ -105,7 +109,7 @@ pub fn clean(log: &[u16], work: &mut [u8]) -> CleanAnswer
         Checked::Passed => {
             clear(work);
             let part = admitted.part;
-            CleanAnswer::Judged(judge_clean(log, &part))
+            CleanAnswer::Judged(judge_clean(log, &part, admitted.own))
         }
     }
 }

@@ -86,7 +86,7 @@ fn exact_learned(log: &[u16], found: Examined) -> Witnessed
 {
     let writes = found.writes;
     let part = found.part;
-    let clean = judge_clean(log, &part);
+    let clean = judge_clean(log, &part, found.own);
     judge_search(log, clean, part, &writes)
 }
 

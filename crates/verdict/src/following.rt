@@ -145,7 +145,7 @@ fn after_order(log: &[u16], found: Examined, order: &[u16]) -> Following
     let earlier = found.earlier;
     let writes = found.writes;
     let part = found.part;
-    let clean = judge_clean(log, &part);
+    let clean = judge_clean(log, &part, found.own);
     if let Cleanness::Unclean(_) = clean {
         return not_listed();
     }

@@ -8,6 +8,7 @@ mod exactness;
 mod following;
 mod leaving;
 mod limits;
+mod own_reads;
 mod refusal;
 mod search;
 mod snapshots;

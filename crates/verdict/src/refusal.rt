@@ -6,6 +6,8 @@ use crate::limits::MadeObject;
 use crate::limits::MadeTransaction;
 use crate::limits::Object;
 use crate::limits::Transaction;
+use crate::own_reads::misses;
+use crate::own_reads::own_fault;
 use crate::step::Step;
 use crate::step::step_at;
 use crate::walk::index;
@@ -17,13 +19,13 @@ ghost use Rattle.words.specs.Tests.{_is_, fails, if_then_else_};
 ghost use Rattle.verdict.specs.Limits.{transactions, most-steps, witness-entries, work-bytes};
 ghost use Rattle.verdict.specs.Log.{steps, tx};
 ghost use Rattle.verdict.specs.Refusal.{_at_when_, _else-try_, tried, range-refusal, life-refusal, source-refusal, step-refusal, open-refusal, log-refusal};
-ghost use Rattle.verdict.specs.Inner.Checking.{numbered, Allowing, in-range, open-by-lives, InRange, Lived, Noted, Examines};
+ghost use Rattle.verdict.specs.Inner.Checking.{numbered, Allowing, in-range, open-by-lives, InRange, Lived, Noted, Walks, Examines};
 ghost use Rattle.verdict.specs.Inner.WriteTable.{Versions};
 ghost use Rattle.verdict.specs.declared.answers.Checked.the-variants.{Passed, Refused};
 
 // What the check finds: its answer and, where nothing turns the log away, for each transaction the steps at which it begins and commits (the
 // number of steps, where it does not), whether it committed, who committed before it (entry 0 has the last to commit), and the marks of the objects that
-// it writes.
+// it writes; and the first own fault, or the number of steps.
 pub(crate) struct Examined {
     pub checked: Checked,
     pub begins: [u16; Transaction::TABLE],
@@ -31,6 +33,7 @@ pub(crate) struct Examined {
     pub part: [u64; graph::WORDS],
     pub earlier: [u16; Transaction::TABLE],
     pub writes: [u64; Transaction::TABLE],
+    pub own: usize,
 }
 
 // What the kind of a step allows: how many objects, from 0 on, and the highest source.
@@ -130,9 +133,9 @@ fn life_number(log: &[u16], i: usize, lives: &[u8; Transaction::TABLE]) -> u16
 }
 
 // Marks of every object.
-const EVERY_OBJECT: u64 = 18446744073709551615;
+pub(crate) const EVERY_OBJECT: u64 = 18446744073709551615;
 
-// 9 or 10, where it applies to step i, by the versions that are there before it; else 0.
+// 9, where it applies to step i, by the versions that are there before it; else 0.
 fn source_number(log: &[u16], i: usize, versions: &[u64; Transaction::TABLE]) -> u16
     requires { ⌜ (4 * i + 4 ≤ length (now log)) × InRange (now log) i × Versions (now log) i (now versions) ⌝ }
     ensures { λ r. ⌜ numbered r i ≡ source-refusal (now (log .entry)) i ⌝ }
@@ -144,15 +147,10 @@ fn source_number(log: &[u16], i: usize, versions: &[u64; Transaction::TABLE]) ->
     if !object_marked(versions, step.src, step.obj) {
         return 9;
     }
-    if object_marked(versions, step.tx, step.obj) {
-        if step.src != step.tx {
-            return 10;
-        }
-    }
     0
 }
 
-// The first of 3 to 10 that applies to step i, by what is noted of the steps before it; 0 if none does.
+// The first of 3 to 9 that applies to step i, by what is noted of the steps before it; 0 if none does.
 fn step_number(
     log: &[u16],
     i: usize,
@@ -238,10 +236,57 @@ pub(crate) fn turned_away(number: u16, place: usize) -> Examined
         part: [0u64; graph::WORDS],
         earlier: [0u16; Transaction::TABLE],
         writes: [0u64; Transaction::TABLE],
+        own: 0,
     }
 }
 
-// 3 to 10, step by step, with what is learned carried along; and behind the last step 11.
+// What the walk over the steps finds: the first number that turns one away and that step, or 0; and whether a read missed its own write.
+struct Walked {
+    number: u16,
+    place: usize,
+    missed: bool,
+}
+
+// 3 to 9, step by step, with what is noted carried along.
+fn walk_steps(
+    log: &[u16],
+    n: usize,
+    lives: &mut [u8; Transaction::TABLE],
+    begins: &mut [u16; Transaction::TABLE],
+    commits: &mut [u16; Transaction::TABLE],
+    part: &mut [u64; graph::WORDS],
+    earlier: &mut [u16; Transaction::TABLE],
+    versions: &mut [u64; Transaction::TABLE],
+) -> Walked
+    requires { ⌜ (n ≡ steps (now log)) × (n ≤ most-steps)
+        × Noted (now log) 0 (now lives) (now begins) (now commits) (now part) (now earlier) (now versions) ⌝ }
+    ensures { λ r. ⌜ Walks (now (log .entry)) r (now (lives .exit)) (now (begins .exit)) (now (commits .exit)) (now (part .exit)) (now (earlier .exit)) (now (versions .exit)) ⌝ }
+{
+    let mut missed = false;
+    let mut i = 0;
+    while i < n {
+        let number = step_number(log, i, lives, versions);
+        if number != 0 {
+            return Walked {
+                number,
+                place: i,
+                missed,
+            };
+        }
+        if misses(log, i, versions) {
+            missed = true;
+        }
+        note_step(log, i, lives, begins, commits, part, earlier, versions);
+        i += 1;
+    }
+    Walked {
+        number: 0,
+        place: n,
+        missed,
+    }
+}
+
+// 3 to 9 over all steps, behind the last step 11, and what is learned.
 fn check_steps(log: &[u16], n: usize) -> Examined
     requires { ⌜ (n ≡ steps (now log)) × (n ≤ most-steps) ⌝ }
     ensures { λ r. ⌜ Examines (now (log .entry)) (tried n (step-refusal (now (log .entry))) else-try tried (suc transactions) (open-refusal (now (log .entry)))) r ⌝ }
@@ -254,24 +299,20 @@ fn check_steps(log: &[u16], n: usize) -> Examined
     let mut earlier = [0u16; Transaction::TABLE];
     let mut writes = [0u64; Transaction::TABLE];
     writes[0] = EVERY_OBJECT;
-    let mut i = 0;
-    while i < n {
-        let number = step_number(log, i, &lives, &writes);
-        if number != 0 {
-            return turned_away(number, i);
-        }
-        note_step(
-            log,
-            i,
-            &mut lives,
-            &mut begins,
-            &mut commits,
-            &mut part,
-            &mut earlier,
-            &mut writes,
-        );
-        i += 1;
+    let walked = walk_steps(
+        log,
+        n,
+        &mut lives,
+        &mut begins,
+        &mut commits,
+        &mut part,
+        &mut earlier,
+        &mut writes,
+    );
+    if walked.number != 0 {
+        return turned_away(walked.number, walked.place);
     }
+    let own = own_fault(log, n, &part, walked.missed);
     writes[0] = 0;
     Examined {
         checked: check_open(&lives),
@@ -280,6 +321,7 @@ fn check_steps(log: &[u16], n: usize) -> Examined
         part,
         earlier,
         writes,
+        own,
     }
 }
 

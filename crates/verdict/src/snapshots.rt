@@ -17,17 +17,19 @@ use crate::walk::object_marked;
 ghost use mathlib.Core.Path.{_≡_};
 ghost use Prim.Native.Nat.{_≤_, _<_, _+_, _*_};
 ghost use lib.ListN.{length, getD};
-ghost use Rattle.words.specs.Tests.{some, lowest};
+ghost use Rattle.words.specs.Tests.{_upto_, if_then_else_, some, lowest};
 ghost use Rattle.bits.specs.Word.{marked};
 ghost use Rattle.verdict.specs.Limits.{transactions, objects};
 ghost use Rattle.verdict.specs.Log.{steps, kind, tx};
 ghost use Rattle.verdict.specs.Refusal.{log-refusal};
-ghost use Rattle.verdict.specs.Snapshot.{last-committed, wanted, wrong-read, clash, snapshot-verdict};
+ghost use Rattle.verdict.specs.Clean.{after-own-write, own-fault};
+ghost use Rattle.verdict.specs.Snapshot.{last-committed, wanted, clash, snapshot-verdict};
 ghost use Rattle.verdict.specs.Call.{SnapshotCall};
 ghost use Rattle.verdict.specs.Inner.Checking.{Learned};
 ghost use Rattle.verdict.specs.Inner.Clashes.{LastCommits, CommitNoted, FirstClash};
 ghost use Rattle.verdict.specs.Inner.Marks.{FirstSteps};
 ghost use Rattle.verdict.specs.Inner.NextWriters.{NextWriters};
+ghost use Rattle.verdict.specs.Inner.StaleReads.{stale-read};
 ghost use Rattle.verdict.specs.Inner.WriteTable.{WriteTable};
 ghost use Rattle.verdict.specs.declared.answers.Checked.the-variants.{Passed};
 
@@ -58,23 +60,28 @@ fn step_of(table: &[u16; Transaction::TABLE], t: u16) -> usize
     index(table[at])
 }
 
-// What read i should have found.
+// What read i should have found, by whether it comes after its own write.
 fn wanted(
     log: &[u16],
     writes: &[u64; Transaction::TABLE],
     begins: &[u16; Transaction::TABLE],
     i: usize,
+    own: bool,
 ) -> Writer
-    requires { ⌜ (log-refusal (now log) ≡ Passed) × WriteTable (now log) (now writes) × FirstSteps (now log) 1 (now begins) × (4 * i + 4 ≤ length (now log)) ⌝ }
+    requires { ⌜ (log-refusal (now log) ≡ Passed) × WriteTable (now log) (now writes) × FirstSteps (now log) 1 (now begins) × (4 * i + 4 ≤ length (now log))
+        × (own ≡ after-own-write (now log) i) ⌝ }
     ensures { λ r. ⌜ r ≡ wanted (now (log .entry)) i ⌝ }
 {
     let step = step_at(log, i);
+    if own {
+        return Writer::Reader(step.tx);
+    }
     last_committed(log, writes, step_of(begins, step.tx), step.obj)
 }
 
 // Whether step i is a judged read from another that names anyone but the last committed writer before its snapshot: there the writer of the
 // next version has committed too, or the source has not.
-fn is_wrong(
+fn is_stale(
     log: &[u16],
     begins: &[u16; Transaction::TABLE],
     commits: &[u16; Transaction::TABLE],
@@ -83,7 +90,7 @@ fn is_wrong(
 ) -> bool
     requires { ⌜ (log-refusal (now log) ≡ Passed) × FirstSteps (now log) 1 (now begins) × FirstSteps (now log) 4 (now commits)
         × NextWriters (now log) (now next) × (4 * i + 4 ≤ length (now log)) ⌝ }
-    ensures { λ r. ⌜ r ≡ wrong-read (now (log .entry)) i ⌝ }
+    ensures { λ r. ⌜ r ≡ stale-read (now (log .entry)) i ⌝ }
 {
     let step = step_at(log, i);
     if step.kind != Step::READ {
@@ -105,8 +112,8 @@ fn is_wrong(
     b <= step_of(commits, step.src)
 }
 
-// The lowest wrong read, or the number of steps where there is none.
-fn first_wrong(
+// The lowest stale read, or the number of steps where there is none.
+fn first_stale(
     log: &[u16],
     begins: &[u16; Transaction::TABLE],
     commits: &[u16; Transaction::TABLE],
@@ -114,12 +121,12 @@ fn first_wrong(
 ) -> usize
     requires { ⌜ (log-refusal (now log) ≡ Passed) × FirstSteps (now log) 1 (now begins) × FirstSteps (now log) 4 (now commits)
         × NextWriters (now log) (now next) ⌝ }
-    ensures { λ r. ⌜ r ≡ lowest (steps (now (log .entry))) (wrong-read (now (log .entry))) ⌝ }
+    ensures { λ r. ⌜ r ≡ lowest (steps (now (log .entry))) (stale-read (now (log .entry))) ⌝ }
 {
     let n = log.len() / 4;
     let mut i = 0;
     while i < n {
-        if is_wrong(log, begins, commits, next, i) {
+        if is_stale(log, begins, commits, next, i) {
             return i;
         }
         i += 1;
@@ -226,20 +233,33 @@ fn first_clash(
     }
 }
 
-// The snapshot verdict of a well-formed log, by where each transaction begins and commits, what it writes, and the writers of the next versions.
+// The lower of two steps.
+fn lower(a: usize, b: usize) -> usize
+    ensures { λ r. ⌜ r ≡ (if a upto b then a else b) ⌝ }
+{
+    if a <= b {
+        return a;
+    }
+    b
+}
+
+// The snapshot verdict of a well-formed log, by where each transaction begins and commits, what it writes, the writers of the next versions, and the
+// first own fault.
 pub(crate) fn judge_snapshot(
     log: &[u16],
     begins: &[u16; Transaction::TABLE],
     commits: &[u16; Transaction::TABLE],
     writes: &[u64; Transaction::TABLE],
     next: &[u8; Transaction::PAIRS],
+    own: usize,
 ) -> Snapshot
     requires { ⌜ (log-refusal (now log) ≡ Passed) × FirstSteps (now log) 1 (now begins) × FirstSteps (now log) 4 (now commits)
-        × WriteTable (now log) (now writes) × NextWriters (now log) (now next) ⌝ }
+        × WriteTable (now log) (now writes) × NextWriters (now log) (now next) × (own ≡ lowest (steps (now log)) (own-fault (now log))) ⌝ }
     ensures { λ r. ⌜ r ≡ snapshot-verdict transactions (now (log .entry)) ⌝ }
 {
     let n = log.len() / 4;
-    let k = first_wrong(log, begins, commits, next);
+    let stale = first_stale(log, begins, commits, next);
+    let k = lower(own, stale);
     let clash = first_clash(log, writes, begins, commits, k);
     let j = clash.step;
     let p = clash.partner;
@@ -247,7 +267,7 @@ pub(crate) fn judge_snapshot(
         return Snapshot::Write(j, p);
     }
     if k < n {
-        return Snapshot::Read(k, wanted(log, writes, begins, k));
+        return Snapshot::Read(k, wanted(log, writes, begins, k, own <= stale));
     }
     Snapshot::Yes
 }
@@ -266,7 +286,7 @@ fn snapshot_learned(log: &[u16], found: Examined) -> Snapshot
     let writes = found.writes;
     let mut next = [0u8; Transaction::PAIRS];
     next_writers(log, &writes, &earlier, &mut next);
-    judge_snapshot(log, &begins, &commits, &writes, &next)
+    judge_snapshot(log, &begins, &commits, &writes, &next, found.own)
 }
 
 // The snapshot verdict: yes, or the lowest wrong step.

@@ -120,7 +120,7 @@ fn version_learned(log: &[u16], found: Examined) -> Witnessed
     let earlier = found.earlier;
     let writes = found.writes;
     let part = found.part;
-    let clean = judge_clean(log, &part);
+    let clean = judge_clean(log, &part, found.own);
     let mut next = [0u8; Transaction::PAIRS];
     next_writers(log, &writes, &earlier, &mut next);
     judge_version(log, clean, part, &next)

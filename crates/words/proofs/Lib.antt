@@ -6,3 +6,4 @@ pub mod Dictionary
 pub mod Search
 pub mod Pigeon
 pub mod From
+pub mod Either

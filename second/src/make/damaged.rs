@@ -6,7 +6,7 @@ use crate::rng::Rng;
 
 /// The numbers of the check that a text can reach; a text has no word for a
 /// kind that is not 1..5.
-const NUMBERS: [u16; 8] = [4, 5, 6, 7, 8, 9, 10, 11];
+const NUMBERS: [u16; 7] = [4, 5, 6, 7, 8, 9, 11];
 
 /// Each index aims at one number; now and then further damage is done.
 pub fn draft(rng: &mut Rng, index: usize) -> Draft {
@@ -39,7 +39,6 @@ fn damage(rng: &mut Rng, draft: &mut Draft, number: u16) -> bool {
         7 => begin_again(rng, draft),
         8 => step_outside(rng, draft),
         9 => read_unwritten(rng, draft),
-        10 => read_past_own_write(rng, draft),
         _ => leave_open(rng, draft),
     }
 }
@@ -143,27 +142,6 @@ fn read_unwritten(rng: &mut Rng, draft: &mut Draft) -> bool {
     draft
         .steps
         .insert(place, [READ, tx, rng.pick(&[0, 1, 2, 63]), from]);
-    true
-}
-
-/// A read right behind an own write, from another that wrote the object or
-/// from 0; at times from one that did not write it, which is 9.
-fn read_past_own_write(rng: &mut Rng, draft: &mut Draft) -> bool {
-    let Some(write) = some_place(rng, draft, &[WRITE]) else {
-        return false;
-    };
-    let (tx, obj) = (draft.steps[write][1], draft.steps[write][2]);
-    let earlier = Draft {
-        steps: draft.steps[..write].to_vec(),
-    };
-    let mut sources = earlier.writers(obj);
-    sources.retain(|&w| w != tx);
-    sources.push(0);
-    if rng.chance(1, 6) {
-        sources = vec![if tx == 128 { 127 } else { tx + 1 }];
-    }
-    let from = rng.pick(&sources);
-    draft.steps.insert(write + 1, [READ, tx, obj, from]);
     true
 }
 

@@ -77,6 +77,7 @@ fn serial_snapshot(rng: &mut Rng) -> Draft {
         writes: 4,
         aborts: rng.below(2),
         strays: 0,
+        misses: 0,
         sources: Sources::Snapshot,
         first_committer_wins: true,
     };

@@ -33,6 +33,8 @@ pub struct Manner {
     pub writes: usize,
     pub aborts: usize,
     pub strays: usize,
+    /// Of the reads after the reader's own write of the object, how many miss it.
+    pub misses: usize,
     pub sources: Sources,
     pub first_committer_wins: bool,
 }
@@ -126,7 +128,7 @@ impl Stage<'_> {
     }
 
     fn source(&mut self, tx: u16, begin: usize, obj: u16) -> u16 {
-        if self.draft.wrote(tx, obj) {
+        if self.draft.wrote(tx, obj) && !self.rng.chance(self.manner.misses, 12) {
             return tx;
         }
         let stray = self.rng.chance(self.manner.strays, 12);

@@ -54,6 +54,7 @@ pub fn manner(rng: &mut Rng) -> Manner {
     match rng.below(6) {
         0 => skewed(rng),
         1 => dirty(rng),
+        2 => cached(rng),
         _ => mixed(rng),
     }
 }
@@ -65,6 +66,7 @@ fn skewed(rng: &mut Rng) -> Manner {
         writes: rng.pick(&[3, 4]),
         aborts: 0,
         strays: 0,
+        misses: 0,
         sources: Sources::Snapshot,
         first_committer_wins: true,
     }
@@ -77,8 +79,20 @@ fn dirty(rng: &mut Rng) -> Manner {
         writes: rng.pick(&[5, 6, 8]),
         aborts: rng.pick(&[0, 2, 4]),
         strays: rng.pick(&[0, 2]),
+        misses: rng.pick(&[0, 0, 4]),
         sources: Sources::LastWritten,
         first_committer_wins: false,
+    }
+}
+
+/// What weak snapshot isolation allows: reads come from the snapshot, now and
+/// then also after the reader's own write.
+fn cached(rng: &mut Rng) -> Manner {
+    Manner {
+        writes: rng.pick(&[4, 6]),
+        aborts: rng.pick(&[0, 0, 3]),
+        misses: rng.pick(&[4, 8, 12]),
+        ..skewed(rng)
     }
 }
 
@@ -94,6 +108,7 @@ fn mixed(rng: &mut Rng) -> Manner {
         writes: rng.pick(&[2, 4, 5, 6, 9]),
         aborts: rng.pick(&[0, 0, 0, 2, 4]),
         strays: rng.pick(&[0, 0, 0, 1, 4]),
+        misses: rng.pick(&[0, 0, 4, 12]),
         sources: rng.pick(&sources),
         first_committer_wins: rng.chance(1, 4),
     }

@@ -44,7 +44,7 @@ fn single_steps() {
     }
 }
 
-/// All of 3 to 10 on one step before the following step.
+/// All of 3 to 9 on one step before the following step.
 #[test]
 fn step_by_step() {
     assert_eq!(checked(&[1, 1, 0, 0, 1, 1, 0, 0, 9, 1, 0, 0]), "7 at 1");

@@ -14,10 +14,10 @@ fn bounds(steps: usize, transactions: u16, objects: u16) -> Bounds {
 
 /// With one transaction and one object, up to four steps: the empty log; its
 /// begin and its end; one step between them; two of them, where a read behind
-/// its own write has one source and any other read has source 0.
+/// its own write has two sources and any other read has source 0.
 #[test]
 fn counted_by_hand() {
-    assert_eq!(count_all(&bounds(4, 1, 1)), 1 + 2 + 2 * 2 + 2 * 4);
+    assert_eq!(count_all(&bounds(4, 1, 1)), 1 + 2 + 2 * 2 + 2 * 5);
 }
 
 /// Two transactions that only begin and end: each end is one of two, and the

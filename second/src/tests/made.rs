@@ -3,8 +3,10 @@
 use std::time::{Duration, Instant};
 
 use crate::histogram::histogram;
+use crate::log::{Kind, Log};
 use crate::make::{Sort, SORTS};
 use crate::report::{log_of, orders, report};
+use crate::verdicts::clean;
 
 #[test]
 fn every_outcome_is_reached() {
@@ -30,6 +32,26 @@ fn wrong_reads_are_common() {
         assert!(10 * (of_the_store + of_another) >= reports.len());
         assert!(20 <= of_the_store.min(of_another));
     }
+}
+
+/// Of the small logs of each of ten seeds at least one in ten has a read after
+/// the reader's own write of the object, from another; some of them only in
+/// transactions that abort, which is no fault.
+#[test]
+fn missed_own_writes_are_common() {
+    for seed in 1..=10 {
+        let texts = (1..=1500).map(|index| Sort::Small.text(seed, index));
+        let logs = texts.map(|text| log_of(&text).expect("small logs pass the check"));
+        let missing: Vec<Log> = logs.filter(misses).collect();
+        let clean = missing.iter().filter(|log| clean(log).is_none()).count();
+        assert!(10 * missing.len() >= 1500, "{}", missing.len());
+        assert!(5 <= clean && 2 * clean <= missing.len(), "{clean}");
+    }
+}
+
+fn misses(log: &Log) -> bool {
+    let mut steps = log.steps.iter().enumerate();
+    steps.any(|(k, s)| s.kind == Kind::Read && s.from != s.tx && log.wrote(s.tx, s.obj, k))
 }
 
 #[test]

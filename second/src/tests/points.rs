@@ -1,11 +1,11 @@
 //! The points that were settled: checks, verdicts and "next", each with its
 //! answer.
 
-use super::short::{checked, next, reports, run};
+use super::short::{checked, list, log, loose_list, next, reports, run};
 
 const CHECKS: [(&str, &str); 14] = [
     ("b1 r1x2 a1", "9 at 1"),
-    ("b1 w1x r1x0 a1", "10 at 2"),
+    ("b1 w1x r1x0 a1", "ok"),
     ("b1 w1x a1 b2 r2x1 c2", "ok"),
     ("b1 r1x1 w1x c1", "9 at 1"),
     ("b1 b2 r1x2 w2x c2 c1", "9 at 2"),
@@ -17,7 +17,7 @@ const CHECKS: [(&str, &str); 14] = [
     ("b1 b1", "7 at 1"),
     ("b1 a1 w1x", "8 at 2"),
     ("b1 w1x r1x1 c1", "ok"),
-    ("b2 w2x c2 b1 w1x r1x2 c1", "10 at 5"),
+    ("b2 w2x c2 b1 w1x r1x2 c1", "ok"),
 ];
 
 #[test]
@@ -105,6 +105,63 @@ fn wants() {
     }
 }
 
+/// A committed reader's read after its own write, with another source: own
+/// comes before aborted and before unfinal, the lowest step decides, and the
+/// snapshot wants the reader, even where the source is what the snapshot holds.
+const OWN: [(&str, &str); 11] = [
+    (
+        "b1 w1x r1x0 a1",
+        "clean=yes; snapshot=yes; version=order; exact=order",
+    ),
+    (
+        "b1 w1x r1x0 c1",
+        "clean=own at 2; snapshot=read at 2 wants 1; conflict=order 1; version=unclean at 2; exact=unclean at 2",
+    ),
+    (
+        "b2 w2x c2 b1 r1x0 w1x r1x0 c1",
+        "clean=own at 6; snapshot=read at 4 wants 2 from 2",
+    ),
+    (
+        "b2 w2x b1 w1x r1x2 c1 a2",
+        "clean=own at 4; snapshot=read at 4 wants 1",
+    ),
+    (
+        "b2 w2x b1 w1x r1x2 w2x c1 c2",
+        "clean=own at 4; snapshot=read at 4 wants 1",
+    ),
+    (
+        "b2 w2x c2 b1 w1x r1x2 c1",
+        "clean=own at 5; snapshot=read at 5 wants 1",
+    ),
+    (
+        "b2 w2y b1 r1y2 w1x r1x0 c1 a2",
+        "clean=aborted at 3; snapshot=read at 3 wants 0; version=unclean at 3",
+    ),
+    (
+        "b2 w2y b1 w1x r1x0 r1y2 c1 a2",
+        "clean=own at 4; version=unclean at 4",
+    ),
+    ("b1 w1x r1x1 r1x0 w1x c1", "clean=own at 3"),
+    ("b1 r1x0 w1x r1y0 c1", "clean=yes; snapshot=yes"),
+    (
+        "b1 b2 w1x w2x c1 r2x0 c2",
+        "clean=own at 5; snapshot=read at 5 wants 2",
+    ),
+];
+
+#[test]
+fn own() {
+    for (short, lines) in OWN {
+        reports(short, lines);
+    }
+    reports(
+        "b1 b2 w1x w2x c1 c2 b3 w3y r3y0 c3",
+        "clean=own at 8; snapshot=write at 5 with 1; conflict=order 1 2 3",
+    );
+    assert!(list(&log("b1 w1x r1x0 c1")).is_empty());
+    assert!(loose_list(&log("b1 w1x r1x0 c1")).is_empty());
+}
+
 #[test]
 fn unclean_and_over() {
     let others: String = (1..=8).map(|tx| format!("b{tx} c{tx} ")).collect();
@@ -115,7 +172,7 @@ fn unclean_and_over() {
     );
 }
 
-const NEXTS: [(&[u16], &str, &str); 12] = [
+const NEXTS: [(&[u16], &str, &str); 15] = [
     (&[1, 3, 2], "b1 w1x c1 b2 w2x c2 b3 r3x1 c3", "none"),
     (&[2, 1, 3], "b1 w1x c1 b2 w2x c2 b3 r3x1 c3", "14 at 0"),
     (&[1, 2], "b1 c1 b2 c2", "order 2 1"),
@@ -126,6 +183,9 @@ const NEXTS: [(&[u16], &str, &str); 12] = [
     (&[], "b1 w1x a1", "none"),
     (&[], "b1 c1", "14 at 0"),
     (&[], "b1 w1x b2 r2x1 c2 a1", "14 at 0"),
+    (&[1], "b1 w1x r1x0 c1", "14 at 0"),
+    (&[], "b1 w1x r1x0 c1", "14 at 0"),
+    (&[], "b1 w1x r1x0 a1", "none"),
     (&[9], "b1", "11 at 1"),
     (&[], "b1 r1x2 a1", "9 at 1"),
 ];

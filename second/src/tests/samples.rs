@@ -105,8 +105,18 @@ fn lists() {
 }
 
 #[test]
+fn own_write_not_read() {
+    let short = "b1 w1x r1x0 c1";
+    reports(
+        short,
+        "clean=own at 2; snapshot=read at 2 wants 1; conflict=order 1",
+    );
+    reports(short, "version=unclean at 2; exact=unclean at 2");
+    assert!(list(&log(short)).is_empty());
+}
+
+#[test]
 fn refused_samples() {
-    assert_eq!(checked(&run("b1 w1x r1x0 c1")), "10 at 2");
     assert_eq!(checked(&run("b1 r1x1 c1")), "9 at 1");
     assert_eq!(checked(&run("b1")), "11 at 1");
 }

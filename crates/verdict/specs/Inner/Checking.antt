@@ -4,15 +4,18 @@ use mathlib.Core.Bool.{true, false}
 use mathlib.Core.List.{List}
 use Prim.Native.Nat.{ℕ, zero, suc, _≤_, _<_}
 use lib.ListN.{length, getD}
-use Rattle.words.specs.Tests.{_is_, _below_, _upto_, _and_, fails, if_then_else_, some}
+use Rattle.words.specs.Tests.{_is_, _below_, _upto_, _and_, fails, if_then_else_, some, lowest}
 use Rattle.graph.specs.Matrix.{takes-part}
 use Rattle.verdict.specs.Limits.{transactions, objects}
 use Rattle.verdict.specs.Log.{steps, kind, tx, obj, src, begun, ended}
-use Rattle.verdict.specs.Refusal.{_at_when_, _else-try_, object-allowed, source-allowed, range-refusal}
+use Rattle.verdict.specs.Refusal.{_at_when_, _else-try_, tried, object-allowed, source-allowed, range-refusal, step-refusal}
+use Rattle.verdict.specs.Clean.{own-fault}
 use Rattle.verdict.specs.Inner.Marks.{does, Committed, FirstSteps}
 use Rattle.verdict.specs.Inner.WriteTable.{Versions, WriteTable}
+use Rattle.verdict.specs.Inner.OwnReads.{misses}
 use Rattle.verdict.specs.declared.refusal.Examined.{Examined}
 use Rattle.verdict.specs.declared.refusal.Ranges.{Ranges}
+use Rattle.verdict.specs.declared.refusal.Walked.{Walked}
 use Rattle.verdict.specs.declared.answers.Checked.{Checked}
 use Rattle.verdict.specs.declared.answers.Checked.the-variants.{Passed}
 
@@ -81,6 +84,12 @@ module _ (log : List ℕ) where
       pub has-written : Versions log i writes
       pub writes-size : length writes ≡ suc transactions
 
+  -- what the walk over all steps finds: the number that turns one away, or what is noted behind the last and whether one misses its own write
+  pub record Walks (r : Walked) (lives begins commits part earlier writes : List ℕ) : Type 0 where
+    pub says : numbered (r .number) (r .place) ≡ tried (steps log) (step-refusal log)
+    pub noted : r .number ≡ 0 → Noted (steps log) lives begins commits part earlier writes
+    pub some-missed : r .number ≡ 0 → r .missed ≡ some (steps log) (misses log)
+
   -- what the check of a well-formed log learns
   pub record Learned (r : Examined) : Type 0 where
     pub begin-steps : FirstSteps log 1 (r .begins)
@@ -88,6 +97,7 @@ module _ (log : List ℕ) where
     pub who : Committed log (r .part)
     pub order : CommitOrder (steps log) (r .earlier)
     pub marks : WriteTable log (r .writes)
+    pub first-own : r .own ≡ lowest (steps log) (own-fault log)
 
   -- what is found of a log: its refusal, and what is learned where there is none
   pub record Examines (refusal : Checked) (r : Examined) : Type 0 where

@@ -19,6 +19,13 @@ pack-requires-2 : tie.Need-pack-requires-2
 unfolding fault-numbers
 pack-requires-2 c κs = known-small fault-numbers (c .before .fault2 .given .1) (c .before .before .before .pre)
 
+enum-known-fault-3 : tie.Need-enum-known-fault-3
+enum-known-fault-3 c = search needs
+
+pack-requires-3 : tie.Need-pack-requires-3
+unfolding fault-numbers
+pack-requires-3 c κs = known-small fault-numbers (c .before .fault3 .given .1) (c .before .before .before .pre)
+
 returns : tie.Need-returns
 unfolding fault-numbers
 returns c = known-packed fault-numbers (c .before .before .fault .given .1) (c .pack .ensures)
@@ -27,7 +34,20 @@ returns-2 : tie.Need-returns-2
 unfolding fault-numbers
 returns-2 c = known-packed fault-numbers (c .before .before .fault2 .given .1) (c .pack2 .ensures)
 
+returns-3 : tie.Need-returns-3
+unfolding fault-numbers
+returns-3 c = known-packed fault-numbers (c .before .before .fault3 .given .1) (c .pack3 .ensures)
+
 pub pack-fault-spec : {M : Type 1} → statement M
 pack-fault-spec =
     tie.close
-    (tie.spec enum-known-fault pack-requires enum-known-fault-2 pack-requires-2 returns returns-2)
+    (tie.spec
+    enum-known-fault
+    pack-requires
+    enum-known-fault-2
+    pack-requires-2
+    enum-known-fault-3
+    pack-requires-3
+    returns
+    returns-2
+    returns-3)

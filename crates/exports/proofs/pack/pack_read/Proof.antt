@@ -22,6 +22,16 @@ pack-requires-2 : tie.Need-pack-requires-2
 unfolding read-numbers
 pack-requires-2 c κs = known-small (read-numbers _) (c .before .writer .given .1) (c .before .before .before .pre)
 
+enum-known-writer-2 : tie.Need-enum-known-writer-2
+enum-known-writer-2 c = search needs
+
+cast-pack-2 : tie.Need-cast-pack-2
+cast-pack-2 c = search needs
+
+pack-requires-3 : tie.Need-pack-requires-3
+unfolding read-numbers
+pack-requires-3 c κs = known-small (read-numbers _) (c .before .writer2 .given .1) (c .before .before .before .pre)
+
 returns : tie.Need-returns
 unfolding read-numbers
 returns c = known-packed (read-numbers _) (c .before .enum-told .given .1) (c .pack .ensures)
@@ -30,7 +40,22 @@ returns-2 : tie.Need-returns-2
 unfolding read-numbers
 returns-2 c = known-packed (read-numbers _) (c .before .before .writer .given .1) (c .pack2 .ensures)
 
+returns-3 : tie.Need-returns-3
+unfolding read-numbers
+returns-3 c = known-packed (read-numbers _) (c .before .before .writer2 .given .1) (c .pack3 .ensures)
+
 pub pack-read-spec : {M : Type 1} → statement M
 pack-read-spec =
     tie.close
-    (tie.spec enum-told pack-requires enum-known-writer cast-pack pack-requires-2 returns returns-2)
+    (tie.spec
+    enum-told
+    pack-requires
+    enum-known-writer
+    cast-pack
+    pack-requires-2
+    enum-known-writer-2
+    cast-pack-2
+    pack-requires-3
+    returns
+    returns-2
+    returns-3)

@@ -11,12 +11,15 @@ use Rattle.text.proofs.Puts.{first-fits, then-fits, both-put, known-fit
 use Rattle.text.proofs.report_line.put_wants.Statement.{statement}
 use Rattle.text.proofs.report_line.put_wants.Tie as tie
 
--- the entry, from where the writer is known: the store, or a transaction
+-- the entry, from where the writer is known: the store, a transaction, or the reader
 abbrev store : tie.After-enum-told → tie.Start
 store c = c .before .before .before
 
 abbrev another : tie.After-writer → tie.Start
 another c = c .before .before .before
+
+abbrev itself : tie.After-writer2 → tie.Start
+itself c = c .before .before .before
 
 -- .. and from the calls to there
 abbrev said-store : tie.After-put-word → tie.After-enum-told
@@ -27,6 +30,9 @@ said-writer c = c .before .before .before .before
 
 abbrev said-step : tie.After-put-item2 → tie.After-put-item
 said-step c = c .before .before .before .before .before
+
+abbrev said-reader : tie.After-put-item3 → tie.After-writer2
+said-reader c = c .before .before .before .before
 
 -- a transaction and its step, which have room
 abbrev of-writer : tie.After-writer → List ℕ
@@ -79,6 +85,22 @@ put-item-requires-2 c κs =
     let s = another d in
     then-fits (of-writer d) (from-step d) (s .args .out .now) (s .args .at) (both-fit d) (p .put-item .ensures)
 
+enum-known-writer-2 : tie.Need-enum-known-writer-2
+enum-known-writer-2 c = search needs
+
+slice-aggregate-put-item-3 : tie.Need-slice-aggregate-put-item-3
+slice-aggregate-put-item-3 c = search needs
+
+cast-put-item-2 : tie.Need-cast-put-item-2
+cast-put-item-2 c = search needs
+
+put-item-requires-3 : tie.Need-put-item-requires-3
+unfolding wants bytes
+put-item-requires-3 c κs =
+    let d = c .before .before .before in
+    let s = itself d in
+    known-fits wants (d .writer2 .given .1) (s .args .out .now) (s .args .at) (s .pre)
+
 same-length : tie.Need-same-length
 same-length c = search needs
 
@@ -102,6 +124,16 @@ returns-2 c =
     known-puts wants (d .writer .given .1) (s .args .out .now) (s .args .at)
     (both-put (of-writer d) (from-step d) (s .args .out .now) (s .args .at) (both-fit d) (p .put-item .ensures) (q .put-item2 .ensures))
 
+same-length-3 : tie.Need-same-length-3
+same-length-3 c = search needs
+
+returns-3 : tie.Need-returns-3
+unfolding wants bytes
+returns-3 c =
+    let p = c .before .before in
+    let s = itself (said-reader p) in
+    known-puts wants (said-reader p .writer2 .given .1) (s .args .out .now) (s .args .at) (p .put-item3 .ensures)
+
 pub put-wants-spec : {M : Type 1} → statement M
 put-wants-spec =
     tie.close
@@ -115,7 +147,13 @@ put-wants-spec =
     put-item-requires
     slice-aggregate-put-item-2
     put-item-requires-2
+    enum-known-writer-2
+    slice-aggregate-put-item-3
+    cast-put-item-2
+    put-item-requires-3
     same-length
     returns
     same-length-2
-    returns-2)
+    returns-2
+    same-length-3
+    returns-3)

@@ -11,6 +11,9 @@ enum-known-fault c = search needs
 enum-known-fault-2 : tie.Need-enum-known-fault-2
 enum-known-fault-2 c = search needs
 
+enum-known-fault-3 : tie.Need-enum-known-fault-3
+enum-known-fault-3 c = search needs
+
 returns : tie.Need-returns
 unfolding fault-step
 returns c = sym (ap fault-step (c .before .fault .given .1))
@@ -19,5 +22,11 @@ returns-2 : tie.Need-returns-2
 unfolding fault-step
 returns-2 c = sym (ap fault-step (c .before .fault2 .given .1))
 
+returns-3 : tie.Need-returns-3
+unfolding fault-step
+returns-3 c = sym (ap fault-step (c .before .fault3 .given .1))
+
 pub step-of-spec : {M : Type 1} → statement M
-step-of-spec = tie.close (tie.spec enum-known-fault enum-known-fault-2 returns returns-2)
+step-of-spec =
+    tie.close
+    (tie.spec enum-known-fault enum-known-fault-2 enum-known-fault-3 returns returns-2 returns-3)

@@ -37,7 +37,8 @@ clear-requires c κs = search needs
 judge-clean-requires : tie.Need-judge-clean-requires
 judge-clean-requires c κs =
     let here = taken c in
-    (else-try→ (passed here) .1, learned-of (here .before .before .admit .ensures) (here .enum-told .given .1) .who)
+    let learned = learned-of (here .before .before .admit .ensures) (here .enum-told .given .1) in
+    (else-try→ (passed here) .1, learned .who, learned .first-own)
 
 returns : tie.Need-returns
 unfolding work-refusal

@@ -11,7 +11,7 @@ use Rattle.words.proofs.Truth.{→below, if-true}
 use Rattle.words.proofs.From.{from-here, from-next, from-end, from-first}
 use Rattle.verdict.specs.Limits.{transactions, objects}
 use Rattle.verdict.specs.Log.{steps, kind, tx, obj}
-use Rattle.verdict.specs.Clean.{faulty-read}
+use Rattle.verdict.specs.Clean.{source-fault}
 use Rattle.verdict.specs.Inner.WriteTable.{WritesFrom}
 use Rattle.verdict.proofs.Faults.{not-faulty}
 use Rattle.verdict.proofs.JudgedReads.{other-kind}
@@ -22,7 +22,7 @@ use Rattle.verdict.proofs.cleanness.first_fault.Tie as tie
 
 -- the marks and the fault are those of the steps from i on
 abbrev Inv-loop : tie.InvT-loop
-Inv-loop log part later₀ i₀ fault₀ later i fault = (i ≤ steps log) × WritesFrom log i later × (fault ≡ lowest (steps log) (λ j. i upto j and faulty-read log j))
+Inv-loop log part later₀ i₀ fault₀ later i fault = (i ≤ steps log) × WritesFrom log i later × (fault ≡ lowest (steps log) (λ j. i upto j and source-fault log j))
 
 abbrev μ-loop : tie.MeasureT-loop
 μ-loop log part later₀ i₀ fault₀ later i fault = i
@@ -59,12 +59,12 @@ module _ (c : tie.After-struct-known Inv-loop μ-loop) where
   behind : WritesFrom the-log (suc i) (head c .loop .later)
   behind = let e : suc i ≡ head c .loop .i = omega arith in rw e (head c .loop .inv .1)
 
-  fault-behind : head c .loop .fault ≡ lowest (steps the-log) (λ j. suc i upto j and faulty-read the-log j)
+  fault-behind : head c .loop .fault ≡ lowest (steps the-log) (λ j. suc i upto j and source-fault the-log j)
   fault-behind = let e : suc i ≡ head c .loop .i = omega arith in rw e (head c .loop .inv .2)
 
   -- the fault stays where the step is not faulty
-  fault-stays : faulty-read the-log i ≡ false → head c .loop .fault ≡ lowest (steps the-log) (λ j. i upto j and faulty-read the-log j)
-  fault-stays n = fault-behind ∙ sym (from-next _ (faulty-read the-log) i n)
+  fault-stays : source-fault the-log i ≡ false → head c .loop .fault ≡ lowest (steps the-log) (λ j. i upto j and source-fault the-log j)
+  fault-stays n = fault-behind ∙ sym (from-next _ (source-fault the-log) i n)
 
 -- a write, and its place in the table
 module _ (c : tie.After-index Inv-loop μ-loop) where
@@ -143,7 +143,7 @@ loop-again-2 : tie.Need-loop-again-2 Inv-loop μ-loop
 loop-again-2 c =
     let none = asked (c .before) in
     let here = none .before in
-    (omega arith, unwritten none, sym (from-here _ (faulty-read (the-log here)) _ (in-log here) (sym (c .before .is-faulty .ensures) ∙ c .if2 .taken)))
+    (omega arith, unwritten none, sym (from-here _ (source-fault (the-log here)) _ (in-log here) (sym (c .before .is-faulty .ensures) ∙ c .if2 .taken)))
 
 loop-less-3 : tie.Need-loop-less-3 Inv-loop μ-loop
 loop-less-3 c = omega arith
@@ -154,7 +154,7 @@ loop-again-3 c =
     (omega arith, unwritten none, fault-stays (none .before) (sym (c .before .is-faulty .ensures) ∙ c .if2 .left))
 
 returns : tie.Need-returns Inv-loop μ-loop
-returns c = let e : c .before .loop .i ≡ 0 = omega arith in rw e at (c .before .loop .inv .2) ∙ from-first _ (faulty-read (entry (c .before) .args .log .now))
+returns c = let e : c .before .loop .i ≡ 0 = omega arith in rw e at (c .before .loop .inv .2) ∙ from-first _ (source-fault (entry (c .before) .args .log .now))
 
 pub first-fault-spec : {M : Type 1} → statement M
 first-fault-spec =

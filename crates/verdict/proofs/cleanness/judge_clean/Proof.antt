@@ -8,16 +8,16 @@ use Rattle.words.specs.Tests.{fails}
 use Rattle.words.proofs.Truth.{→fails, →not-fails}
 use Rattle.verdict.specs.Limits.{transactions}
 use Rattle.verdict.specs.Log.{steps, kind, src, aborted}
-use Rattle.verdict.specs.Clean.{faulty-read}
+use Rattle.verdict.specs.Clean.{source-fault}
 use Rattle.verdict.proofs.Ended.{aborted-else}
-use Rattle.verdict.proofs.Faults.{no-fault, faulty-judged, faulty-source, faulty-there, from-aborted, from-unfinal}
+use Rattle.verdict.proofs.Faults.{faulty-judged, faulty-source, no-fault, from-own, source-in-log, faulty-there, from-aborted, from-unfinal}
 use Rattle.verdict.proofs.JudgedReads.{is-read}
 use Rattle.verdict.proofs.Matrices.{told-committed}
 use Rattle.verdict.proofs.WellFormed.{Well, well-formed}
 use Rattle.verdict.proofs.cleanness.judge_clean.Statement.{statement}
 use Rattle.verdict.proofs.cleanness.judge_clean.Tie as tie
 
--- the lowest faulty step, from where it is read; and the entry
+-- the first faulty source, from where the read there is known; and the entry
 abbrev faulty : tie.After-step-at → tie.After-first-fault
 faulty c = c .before .before
 
@@ -32,12 +32,14 @@ module _ (c : tie.After-step-at) where
   abbrev k : ℕ
   k = faulty c .first-fault .result
 
-  in-log : k < steps (start .args .log .now)
-  unfolding steps
-  in-log = omega arith
+  earlier : k < start .args .own
+  earlier = c .before .if1 .left
 
-  at-fault : faulty-read (start .args .log .now) k ≡ true
-  at-fault = faulty-there _ k (faulty c .first-fault .ensures) in-log
+  in-log : k < steps (start .args .log .now)
+  in-log = source-in-log _ (start .pre .2) (faulty c .first-fault .ensures) earlier
+
+  at-fault : source-fault (start .args .log .now) k ≡ true
+  at-fault = faulty-there _ (start .pre .2) (faulty c .first-fault .ensures) earlier
 
   well : Well transactions (start .args .log .now)
   well = well-formed _ (start .pre .0)
@@ -60,27 +62,45 @@ first-fault-requires c κs = search needs
 
 returns : tie.Need-returns
 unfolding steps
-returns c = sym (no-fault _ (rw (c .before .first-fault .ensures) at (c .if1 .taken)))
+returns c =
+    let found = c .before .before in
+    sym (no-fault _ (entry found .pre .2) (found .first-fault .ensures) (c .before .if1 .taken) (c .if2 .taken))
+
+returns-2 : tie.Need-returns-2
+unfolding steps
+returns-2 c =
+    let found = c .before .before in
+    sym (from-own _ (entry found .pre .2) (found .first-fault .ensures) (c .before .if1 .taken) (c .if2 .left))
 
 step-at-requires : tie.Need-step-at-requires
-step-at-requires c κs = omega arith
+unfolding steps
+step-at-requires c κs =
+    let found = c .before in
+    omega (arith, source-in-log (entry found .args .log .now) (entry found .pre .2) (found .first-fault .ensures) (c .if1 .left))
 
 takes-part-requires : tie.Need-takes-part-requires
 takes-part-requires c κs =
     let n = faulty-source _ (k c) (at-fault c) in
     (omega (arith, c .step-at .ensures .src-is, n), omega (arith, c .step-at .ensures .src-is, source-in c))
 
-returns-2 : tie.Need-returns-2
-returns-2 c =
-    let at = c .before .before in
-    sym (from-unfinal _ _ (faulty at .first-fault .ensures) (in-log at) (source (c .before) (c .if2 .taken) ∙ →not-fails refl))
-
 returns-3 : tie.Need-returns-3
 returns-3 c =
     let at = c .before .before in
-    sym (from-aborted _ _ (faulty at .first-fault .ensures) (in-log at) (source (c .before) (c .if2 .left) ∙ →fails refl))
+    sym (from-unfinal _ (start at .pre .2) (faulty at .first-fault .ensures) (earlier at) (source (c .before) (c .if3 .taken) ∙ →not-fails refl))
+
+returns-4 : tie.Need-returns-4
+returns-4 c =
+    let at = c .before .before in
+    sym (from-aborted _ (start at .pre .2) (faulty at .first-fault .ensures) (earlier at) (source (c .before) (c .if3 .left) ∙ →fails refl))
 
 pub judge-clean-spec : {M : Type 1} → statement M
 judge-clean-spec =
     tie.close
-    (tie.spec first-fault-requires returns step-at-requires takes-part-requires returns-2 returns-3)
+    (tie.spec
+    first-fault-requires
+    returns
+    returns-2
+    step-at-requires
+    takes-part-requires
+    returns-3
+    returns-4)

@@ -1,4 +1,4 @@
--- A wrong read, by the commits of its source and of the writer of the next version.
+-- A stale read, by the commits of its source and of the writer of the next version.
 use mathlib.Core.Path.{_≡_, refl, sym, ap, _∙_}
 use mathlib.Core.Bool.{true, false}
 use mathlib.Core.Logic.{_⊎_, inl, inr}
@@ -6,11 +6,12 @@ use mathlib.Core.List.{List}
 use Prim.Native.Nat.{ℕ, suc, _≤_, _<_}
 use native.Mathlib.Omega.{arith}
 use Rattle.words.specs.Tests.{_is_, _below_, _upto_, _or_, some, highest}
-use Rattle.words.proofs.Truth.{decide, not-both, to-false, and→, →and, and-no-right, →fails, →not-fails, is→, →is, →isnt, upto→, →upto, not-upto→, →below, below→, not-below→, →not-below, if-true, if-false, →some, →none, lowest-is, lowest-none, lowest-passes, lowest-bound, lowest-some, below-lowest, highest-is, highest-none, highest-at}
+use Rattle.words.proofs.Truth.{decide, not-both, to-false, and→, →and, and-no-left, and-no-right, →fails, →not-fails, is→, →is, →isnt, upto→, →upto, not-upto→, →below, below→, not-below→, →not-below, if-true, if-false, →some, →none, lowest-is, lowest-none, lowest-passes, lowest-bound, lowest-some, below-lowest, highest-is, highest-none, highest-at}
 use Rattle.verdict.specs.Log.{steps, tx, obj, src, commits, committed, writer, commit-step, commits-writer}
 use Rattle.verdict.specs.Clean.{judged-other}
 use Rattle.verdict.specs.Version.{versions-from, next-commit}
-use Rattle.verdict.specs.Snapshot.{writer-number, snapshot-step, last-commit, last-committed, wanted, wrong-read}
+use Rattle.verdict.specs.Snapshot.{writer-number, snapshot-step, last-commit, last-committed}
+use Rattle.verdict.specs.Inner.StaleReads.{stale-read}
 use Rattle.verdict.specs.Inner.VersionEdges.{next-writer}
 use Rattle.verdict.proofs.WellFormed.{Well}
 use Rattle.verdict.proofs.JudgedReads.{is-read}
@@ -118,18 +119,22 @@ module _ {most : ℕ} (log : List ℕ) (well : Well most log) (x : ℕ) where
         here : commits-writer log x (commit-step log s) ≡ true
         here = unfold commits-writer commits in (→and (and→ (commit-step-is log well s s-committed .1) .0) (rw (tx-at log well s s-committed) w))
 
+pub not-stale : (log : List ℕ) (i : ℕ) → judged-other log i ≡ false → stale-read log i ≡ false
+unfolding stale-read
+not-stale log i j = and-no-left _ j
+
 -- A JUDGED READ FROM ANOTHER
 module _ {most : ℕ} (log : List ℕ) (well : Well most log) (i : ℕ) (judged : judged-other log i ≡ true) where
   -- the number of what it should have found
   should : ℕ
   should = writer-number (last-committed log (snapshot-step log (tx log i)) (obj log i))
 
-  names-another : (src log i ≡ should → ⊥) → wrong-read log i ≡ true
-  unfolding should wrong-read wanted
+  names-another : (src log i ≡ should → ⊥) → stale-read log i ≡ true
+  unfolding should stale-read
   names-another f = →and judged (→fails (→isnt f))
 
-  names-it : should ≡ src log i → wrong-read log i ≡ false
-  unfolding should wrong-read wanted
+  names-it : should ≡ src log i → stale-read log i ≡ false
+  unfolding should stale-read
   names-it e = and-no-right _ (→not-fails (→is (sym e)))
 
   -- its transaction begins at b, and the writer of the next version commits at n
@@ -137,20 +142,20 @@ module _ {most : ℕ} (log : List ℕ) (well : Well most log) (i : ℕ) (judged 
     next-at : n ≡ next-commit log (obj log i) (src log i)
     next-at = next-is ∙ next-commits log well (obj log i) (src log i)
 
-    pub next-committed : n < b → wrong-read log i ≡ true
+    pub next-committed : n < b → stale-read log i ≡ true
     unfolding should
     next-committed h = names-another (overtaken log well (obj log i) _ (begins-within log (tx log i)) (src log i) (rw (next-at, begin-is) at h))
 
-    pub store-read : b ≤ n → src log i ≡ 0 → wrong-read log i ≡ false
+    pub store-read : b ≤ n → src log i ≡ 0 → stale-read log i ≡ false
     unfolding should
     store-read h e = names-it (store-last log well (obj log i) _ (begins-within log (tx log i)) (rw (next-at, begin-is, e) at h) ∙ sym e)
 
     -- .. and the source at c
-    pub source-read : {c : ℕ} → c ≡ commit-step log (src log i) → i < steps log → b ≤ n → (src log i ≡ 0 → ⊥) → (b upto c) ≡ wrong-read log i
+    pub source-read : {c : ℕ} → c ≡ commit-step log (src log i) → i < steps log → b ≤ n → (src log i ≡ 0 → ⊥) → (b upto c) ≡ stale-read log i
     unfolding should
     source-read {c} f l h k = go (decide (b upto c))
       where
-        go : ((b upto c) ≡ true) ⊎ ((b upto c) ≡ false) → (b upto c) ≡ wrong-read log i
+        go : ((b upto c) ≡ true) ⊎ ((b upto c) ≡ false) → (b upto c) ≡ stale-read log i
         go (inl q) = q ∙ sym (names-another (too-late log well (obj log i) _ (begins-within log (tx log i)) (src log i) k (rw (begin-is, f) at (upto→ q))))
         go (inr q) =
             q ∙ sym (names-it (source-last log well (obj log i) _ (begins-within log (tx log i)) (src log i) k (well .source i l (is-read log i judged) k) (rw (begin-is, f) at (not-upto→ q)) (rw (next-at, begin-is) at h)))

@@ -1,4 +1,4 @@
--- `is_wrong` meets its contract.
+-- `is_stale` meets its contract.
 use mathlib.Core.Path.{_≡_, sym, ap, _∙_}
 use mathlib.Core.Bool.{true}
 use mathlib.Core.Logic.{inl}
@@ -14,11 +14,11 @@ use Rattle.verdict.specs.Inner.VersionEdges.{next-writer}
 use Rattle.verdict.proofs.WellFormed.{Well, well-formed}
 use Rattle.verdict.proofs.JudgedReads.{other-kind, own-source, reader-fails, judged-read}
 use Rattle.verdict.proofs.VersionGraph.{next-range}
-use Rattle.verdict.proofs.SnapshotLaws.{not-wrong, begin-at, commit-at}
+use Rattle.verdict.proofs.SnapshotLaws.{begin-at, commit-at}
 use Rattle.verdict.proofs.NextWriters.{next-read}
-use Rattle.verdict.proofs.WrongReads.{has-committed, not-committed, next-committed, store-read, source-read}
-use Rattle.verdict.proofs.snapshots.is_wrong.Statement.{statement}
-use Rattle.verdict.proofs.snapshots.is_wrong.Tie as tie
+use Rattle.verdict.proofs.StaleReads.{not-stale, has-committed, not-committed, next-committed, store-read, source-read}
+use Rattle.verdict.proofs.snapshots.is_stale.Statement.{statement}
+use Rattle.verdict.proofs.snapshots.is_stale.Tie as tie
 
 -- the step and the entry, from where it is a read
 abbrev read : tie.Else1 → tie.After-step-at
@@ -93,19 +93,19 @@ step-at-requires : tie.Need-step-at-requires
 step-at-requires c κs = search needs
 
 returns : tie.Need-returns
-returns c = sym (not-wrong _ _ (other-kind _ _ (λ e. c .if1 .taken (c .before .before .step-at .ensures .kind-is ∙ e))))
+returns c = sym (not-stale _ _ (other-kind _ _ (λ e. c .if1 .taken (c .before .before .step-at .ensures .kind-is ∙ e))))
 
 returns-2 : tie.Need-returns-2
 returns-2 c =
     let step = read (c .before .before) .step-at .ensures in
-    sym (not-wrong _ _ (own-source _ _ (sym (step .src-is) ∙ c .if2 .taken ∙ step .tx-is)))
+    sym (not-stale _ _ (own-source _ _ (sym (step .src-is) ∙ c .if2 .taken ∙ step .tx-is)))
 
 step-of-requires : tie.Need-step-of-requires
 step-of-requires c κs = tx-in (c .before .before)
 
 returns-3 : tie.Need-returns-3
 unfolding steps
-returns-3 c = sym (not-wrong _ _ (reader-fails _ _ (not-committed _ _ (omega (arith, c .if3 .taken, commit-is (c .before))))))
+returns-3 c = sym (not-stale _ _ (reader-fails _ _ (not-committed _ _ (omega (arith, c .if3 .taken, commit-is (c .before))))))
 
 step-of-requires-2 : tie.Need-step-of-requires-2
 step-of-requires-2 c κs = tx-in (other (c .before))
@@ -141,8 +141,8 @@ returns-6 c =
     source-read _ (known one) _ (is-judged (begun .before)) (begin-is begun) (next-commit-is (here .before))
     (c .step-of4 .ensures ∙ commit-at _ _ (src-in one) (entry one .pre .2) ∙ ap (commit-step (entry one .args .log .now)) (step .src-is)) (in-log one) (here .if4 .left) (λ e. c .before .if5 .left (step .src-is ∙ e))
 
-pub is-wrong-spec : {M : Type 1} → statement M
-is-wrong-spec =
+pub is-stale-spec : {M : Type 1} → statement M
+is-stale-spec =
     tie.close
     (tie.spec
     step-at-requires
