@@ -2,7 +2,6 @@
 pub mod Fill
 pub mod Refused
 pub mod Numbers
-pub mod StepLaws
 pub mod JudgedReads
 pub mod Faults
 pub mod Cleanly
@@ -21,7 +20,7 @@ pub mod OwnReads
 pub mod Clashing
 pub mod Loosely
 pub mod Placements
-pub mod Ranges
+pub mod Asking
 pub mod Lives
 pub mod Sources
 pub mod Noting

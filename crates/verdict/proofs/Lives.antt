@@ -11,8 +11,8 @@ use Rattle.words.specs.Tests.{_is_, _and_, _or_, fails, if_then_else_, some}
 use Rattle.words.proofs.Truth.{decide, not-both, to-false, →and, and-no-left, and-no-right, →or-left, →or-right, or-no, is→, →is, isnt→, →isnt, if-true, if-false, →some, some-skip, some-next}
 use Rattle.verdict.specs.Limits.{transactions}
 use Rattle.verdict.specs.Log.{steps, kind, tx, begins, commits, aborts, begun, ended}
-use Rattle.verdict.specs.Refusal.{tried, life-refusal, open-refusal}
-use Rattle.verdict.specs.Inner.Checking.{life, open-by-lives, Lived}
+use Rattle.verdict.specs.Refusal.{_at_when_, tried, life-refusal, open-refusal}
+use Rattle.verdict.specs.Inner.Checking.{numbered, life, open-by-lives, Lived}
 use Rattle.verdict.specs.declared.answers.Checked.the-variants.{Passed, Refused}
 use Rattle.verdict.proofs.Numbers.{begun-again, begins-now, not-begun, has-ended, under-way}
 use Rattle.verdict.proofs.Refused.{tried-same}
@@ -71,20 +71,26 @@ module _ (log : List ℕ) (i : ℕ) where
 
   -- anything else
   module _ (other : life log i (tx log i) ≡ (if kind log i is 1 then 0 else 1) → ⊥) where
-    pub life-7 : kind log i ≡ 1 → life-refusal log i ≡ Refused 7 i
+    life-7 : kind log i ≡ 1 → life-refusal log i ≡ Refused 7 i
     life-7 k = go (decide (begun log i (tx log i)))
       where
         go : (begun log i (tx log i) ≡ true) ⊎ (begun log i (tx log i) ≡ false) → life-refusal log i ≡ Refused 7 i
         go (inl b) = begun-again log i k b
         go (inr b) = absurd (other (life-fresh log i (tx log i) b ∙ sym (if-true _ _ (→is k))))
 
-    pub life-8 : (kind log i ≡ 1 → ⊥) → life-refusal log i ≡ Refused 8 i
+    life-8 : (kind log i ≡ 1 → ⊥) → life-refusal log i ≡ Refused 8 i
     life-8 k = go (decide (begun log i (tx log i))) (decide (ended log i (tx log i)))
       where
         go : (begun log i (tx log i) ≡ true) ⊎ (begun log i (tx log i) ≡ false) → (ended log i (tx log i) ≡ true) ⊎ (ended log i (tx log i) ≡ false) → life-refusal log i ≡ Refused 8 i
         go (inr b) e = not-begun log i k b
         go (inl b) (inl e) = has-ended log i k e
         go (inl b) (inr e) = absurd (other (life-open log i (tx log i) b e ∙ sym (if-false _ _ (→isnt k))))
+
+    -- the number that its kind gets
+    pub life-late : {n : ℕ} → n ≡ (if kind log i is 1 then 7 else 8) → numbered n i ≡ life-refusal log i
+    unfolding numbered _at_when_ fails _is_
+    life-late e =
+        ⊎-elim (λ k. rw (e ∙ if-true _ _ k) (sym (life-7 (is→ k)))) (λ k. rw (e ∙ if-false _ _ k) (sym (life-8 (isnt→ k)))) (decide (kind log i is 1))
 
 -- after the last step, the table says who is open
 pub open-lived : (log : List ℕ) {l : List ℕ} → Lived log (steps log) l → tried (suc transactions) (open-by-lives l) ≡ tried (suc transactions) (open-refusal log)

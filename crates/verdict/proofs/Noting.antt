@@ -1,14 +1,13 @@
 -- What the check notes of each step, and what is learned of the whole log.
 use mathlib.Core.Path.{_≡_, refl, sym, _∙_}
-use mathlib.Core.Bool.{false}
-use mathlib.Core.Logic.{inl, inr, ⊎-elim}
+use mathlib.Core.Bool.{Bool, false}
+use mathlib.Core.Logic.{_⊎_, ⊎-elim}
 use mathlib.Core.List.{List}
 use Prim.Native.Nat.{ℕ, suc, _+_, _≤_}
 use native.Mathlib.Omega.{arith}
-use lib.ListN.{getD, set, replicate, length-set, length-replicate}
+use lib.ListN.{length, getD, set, replicate, length-set, length-replicate}
 use Rattle.words.specs.Tests.{_is_, _below_, _upto_, _and_, _or_, if_then_else_, some, lowest}
-use Rattle.words.proofs.Truth.{same-test, and→, →and, and-no-left, and-no-right, →none, or→, →or-left, →or-right, is→, →is, →isnt, →below, →upto, if-true, to-false, not-both, →some, some→, some-skip, some-next}
-use Rattle.bits.specs.Word.{more}
+use Rattle.words.proofs.Truth.{same-test, and→, →and, and-no-left, and-no-right, →none, or→, →or-left, →or-right, is→, →is, →isnt, →upto, to-false, not-both, →some, some→, some-skip, some-next}
 use Rattle.graph.specs.Matrix.{takes-part}
 use Rattle.graph.proofs.TwoWords.{no-member}
 use Rattle.verdict.specs.Limits.{transactions}
@@ -16,14 +15,16 @@ use Rattle.verdict.specs.Log.{steps, kind, tx, obj, begins, commits, beg
 use Rattle.verdict.specs.Refusal.{tried, step-refusal}
 use Rattle.verdict.specs.Clean.{own-fault}
 use Rattle.verdict.specs.Inner.Marks.{does, Committed}
-use Rattle.verdict.specs.Inner.Checking.{Noted, Learned}
+use Rattle.verdict.specs.Inner.Checking.{StepsBefore, InOrder, Lived, Noted, Takes, Learned}
+use Rattle.verdict.specs.Inner.WriteTable.{Versions}
 use Rattle.verdict.specs.declared.refusal.Examined.{Examined}
 use Rattle.verdict.specs.declared.answers.Checked.the-variants.{Passed}
-use Rattle.verdict.proofs.WellFormed.{tried→, step-within, tx-within, object-within, fresh, alive}
+use Rattle.verdict.proofs.WellFormed.{tried→, step-within, tx-within, fresh, alive}
+use Rattle.verdict.proofs.Numbers.{no-such-kind}
 use Rattle.verdict.proofs.FirstSteps.{steps-none, steps-skip, steps-more, steps-all}
 use Rattle.verdict.proofs.CommitOrders.{order-none, order-skip, order-more}
 use Rattle.verdict.proofs.Lives.{lived-none, lived-on, lived-begin, lived-end}
-use Rattle.verdict.proofs.WriteMarks.{none-written, write-skip, write-more, all-written}
+use Rattle.verdict.proofs.WriteMarks.{none-written, write-skip, all-written}
 
 -- before the first step there is nothing to note
 pub noted-none : (log : List ℕ) (m n : ℕ) → m ≡ suc transactions → n ≡ steps log → Noted log 0 (replicate m 0) (replicate m n) (replicate m n) (replicate 2 0) (replicate m 0) (set (replicate m 0) 0 18446744073709551615)
@@ -31,112 +32,125 @@ unfolding some
 noted-none log m n h e = record {
   has-lived = lived-none log m h;
   has-begun = steps-none log 1 m n h e;
-  has-committed = steps-none log 4 m n h e;
-  who-committed = no-member 2;
-  commit-order = order-none log m h;
+  has-committed = record { at-step = steps-none log 4 m n h e; who = no-member 2; after = order-none log m h };
   has-written = none-written log m (omega arith);
   writes-size = length-set (replicate m 0) 0 _ ∙ length-replicate m 0 ∙ h;
 }
 
--- one step more, which no number turns away
-module _ (log : List ℕ) (i : ℕ) {l b c p o w : List ℕ} (noted : Noted log i l b c p o w) (passed : step-refusal log i ≡ Passed) where
+-- A STEP THAT NO NUMBER TURNS AWAY
+module _ (log : List ℕ) (i : ℕ) (passed : step-refusal log i ≡ Passed) where
   tx-in : (1 ≤ tx log i) × (tx log i ≤ transactions)
   tx-in = tx-within log i (step-within log i passed)
 
-  -- another commits, or none
-  none-committed : (kind log i ≡ 4 → ⊥) → (t : ℕ) → takes-part transactions p t ≡ some (i + 1) (does log 4 t)
-  unfolding does
-  none-committed k t = noted .who-committed t ∙ sym (some-skip i (does log 4 t) (and-no-left _ (→isnt k)))
+  -- a begin
+  module _ (begin : kind log i ≡ 1) where
+    pub begin-lives : {l : List ℕ} → Lived log i l → Lived log (i + 1) (set l (tx log i) 1)
+    begin-lives lived = lived-begin log i lived begin (tx-in .1) (fresh log i passed begin)
 
-  one-committed : (q : List ℕ) → kind log i ≡ 4 → ((t : ℕ) → takes-part transactions q t ≡ (t is tx log i and 1 upto tx log i and tx log i upto transactions or takes-part transactions p t))
-      → (t : ℕ) → takes-part transactions q t ≡ some (i + 1) (does log 4 t)
-  unfolding does
-  one-committed q k f t =
-      f t
-      ∙ same-test (λ h. ⊎-elim (λ z. some-next i (does log 4 t) ∙ →or-right _ (→and (→is k) (→is (sym (is→ (and→ (and→ z .0) .0)))))) (λ z. some-next i (does log 4 t) ∙ →or-left _ (sym (noted .who-committed t) ∙ z)) (or→ h))
-      (λ h. ⊎-elim (λ z. →or-right _ (noted .who-committed t ∙ z)) (λ z. →or-left _ (→and (→and (→is (sym (is→ (and→ z .1)))) (→upto (tx-in .0))) (→upto (tx-in .1)))) (or→ (sym (some-next i (does log 4 t)) ∙ h)))
+    pub begin-noted : {b : List ℕ} → StepsBefore log 1 i b → StepsBefore log 1 (i + 1) (set b (tx log i) i)
+    unfolding does begun begins
+    begin-noted before = steps-more log 1 i before begin (tx-in .1) (fresh log i passed begin)
 
-  pub note-write : {u x v : ℕ} → kind log i ≡ 3 → u ≡ tx log i → x ≡ obj log i → v ≡ (if x below 64 then more (getD w u 0) x else getD w u 0) → Noted log (i + 1) l b c p o (set w u v)
-  note-write {u} {x} {v} k e f g = rw (g, e, f, if-true (more (getD w (tx log i) 0) (obj log i)) (getD w (tx log i) 0) (→below (object-within log i (step-within log i passed)))) written
-    where
-      written : Noted log (i + 1) l b c p o (set w (tx log i) (more (getD w (tx log i) 0) (obj log i)))
-      written = record {
-        has-lived = lived-on log i (noted .has-lived) (λ (q : kind log i ≡ 1). omega arith) (λ (q : kind log i ≡ 4). omega arith) (λ (q : kind log i ≡ 5). omega arith);
-        has-begun = steps-skip log 1 i (noted .has-begun) (λ (q : kind log i ≡ 1). omega arith);
-        has-committed = steps-skip log 4 i (noted .has-committed) (λ (q : kind log i ≡ 4). omega arith);
-        who-committed = none-committed (λ (q : kind log i ≡ 4). omega arith);
-        commit-order = order-skip log i (noted .commit-order) (λ (q : kind log i ≡ 4). omega arith);
-        has-written = write-more log i (noted .has-written) k (omega (arith, noted .writes-size, tx-in .1));
-        writes-size = length-set w (tx log i) _ ∙ noted .writes-size;
-      }
+  -- an end
+  pub end-lives : {l : List ℕ} → (kind log i ≡ 4) ⊎ (kind log i ≡ 5) → Lived log i l → Lived log (i + 1) (set l (tx log i) 2)
+  end-lives end lived = lived-end log i lived end (tx-in .1) (alive log i passed (λ k. ⊎-elim (λ c. omega (arith, k, c)) (λ a. omega (arith, k, a)) end) .0)
 
-  pub note-read : kind log i ≡ 2 → Noted log (i + 1) l b c p o w
-  note-read k = record {
-    has-lived = lived-on log i (noted .has-lived) (λ (q : kind log i ≡ 1). omega arith) (λ (q : kind log i ≡ 4). omega arith) (λ (q : kind log i ≡ 5). omega arith);
-    has-begun = steps-skip log 1 i (noted .has-begun) (λ (q : kind log i ≡ 1). omega arith);
-    has-committed = steps-skip log 4 i (noted .has-committed) (λ (q : kind log i ≡ 4). omega arith);
-    who-committed = none-committed (λ (q : kind log i ≡ 4). omega arith);
-    commit-order = order-skip log i (noted .commit-order) (λ (q : kind log i ≡ 4). omega arith);
-    has-written = write-skip log i (noted .has-written) (λ (q : kind log i ≡ 3). omega arith);
-    writes-size = noted .writes-size;
-  }
-
-  pub note-begin : kind log i ≡ 1 → Noted log (i + 1) (set l (tx log i) 1) (set b (tx log i) i) c p o w
-  unfolding does begun begins
-  note-begin k = record {
-    has-lived = lived-begin log i (noted .has-lived) k (tx-in .1) (fresh log i passed k);
-    has-begun = steps-more log 1 i (noted .has-begun) k (tx-in .1) new;
-    has-committed = steps-skip log 4 i (noted .has-committed) (λ (q : kind log i ≡ 4). omega arith);
-    who-committed = none-committed (λ (q : kind log i ≡ 4). omega arith);
-    commit-order = order-skip log i (noted .commit-order) (λ (q : kind log i ≡ 4). omega arith);
-    has-written = write-skip log i (noted .has-written) (λ (q : kind log i ≡ 3). omega arith);
-    writes-size = noted .writes-size;
-  }
-    where
-      new : some i (does log 1 (tx log i)) ≡ false
-      new = fresh log i passed k
-
-  -- the end of a transaction
-  pub note-commit : {q : List ℕ} → kind log i ≡ 4 → ((t : ℕ) → takes-part transactions q t ≡ (t is tx log i and 1 upto tx log i and tx log i upto transactions or takes-part transactions p t))
-      → Noted log (i + 1) (set l (tx log i) 2) b (set c (tx log i) i) q (set (set o (tx log i) (getD o 0 0)) 0 (tx log i)) w
+  -- a commit
+  pub commit-noted : {c p q o : List ℕ} → kind log i ≡ 4 → InOrder log i c p o
+      → ((t : ℕ) → takes-part transactions q t ≡ (t is tx log i and 1 upto tx log i and tx log i upto transactions or takes-part transactions p t))
+      → InOrder log (i + 1) (set c (tx log i) i) q (set (set o (tx log i) (getD o 0 0)) 0 (tx log i))
   unfolding does ended commits
-  note-commit {q} k f = record {
-    has-lived = lived-end log i (noted .has-lived) (inl k) (tx-in .1) (alive log i passed (λ (z : kind log i ≡ 1). omega arith) .0);
-    has-begun = steps-skip log 1 i (noted .has-begun) (λ (z : kind log i ≡ 1). omega arith);
-    has-committed = steps-more log 4 i (noted .has-committed) k (tx-in .1) new;
-    who-committed = one-committed q k f;
-    commit-order = order-more log i (noted .commit-order) refl k (tx-in .0) (tx-in .1) new;
-    has-written = write-skip log i (noted .has-written) (λ (z : kind log i ≡ 3). omega arith);
-    writes-size = noted .writes-size;
+  commit-noted {p} {q} k before f = record {
+    at-step = steps-more log 4 i (before .at-step) k (tx-in .1) new;
+    who = one;
+    after = order-more log i (before .after) refl k (tx-in .0) (tx-in .1) new;
   }
     where
       new : some i (does log 4 (tx log i)) ≡ false
       new = to-false _ (λ s. let r = some→ s in not-both (→some _ (r .0) (r .1) (→or-left _ (r .2))) (alive log i passed (λ (z : kind log i ≡ 1). omega arith) .1))
 
-  pub note-abort : kind log i ≡ 5 → Noted log (i + 1) (set l (tx log i) 2) b c p o w
-  note-abort k = record {
-    has-lived = lived-end log i (noted .has-lived) (inr k) (tx-in .1) (alive log i passed (λ (z : kind log i ≡ 1). omega arith) .0);
-    has-begun = steps-skip log 1 i (noted .has-begun) (λ (z : kind log i ≡ 1). omega arith);
-    has-committed = steps-skip log 4 i (noted .has-committed) (λ (z : kind log i ≡ 4). omega arith);
-    who-committed = none-committed (λ (z : kind log i ≡ 4). omega arith);
-    commit-order = order-skip log i (noted .commit-order) (λ (z : kind log i ≡ 4). omega arith);
-    has-written = write-skip log i (noted .has-written) (λ (z : kind log i ≡ 3). omega arith);
+      one : (t : ℕ) → takes-part transactions q t ≡ some (i + 1) (does log 4 t)
+      one t =
+          f t
+          ∙ same-test (λ h. ⊎-elim (λ z. some-next i (does log 4 t) ∙ →or-right _ (→and (→is k) (→is (sym (is→ (and→ (and→ z .0) .0)))))) (λ z. some-next i (does log 4 t) ∙ →or-left _ (sym (before .who t) ∙ z)) (or→ h))
+          (λ h. ⊎-elim (λ z. →or-right _ (before .who t ∙ z)) (λ z. →or-left _ (→and (→and (→is (sym (is→ (and→ z .1)))) (→upto (tx-in .0))) (→upto (tx-in .1)))) (or→ (sym (some-next i (does log 4 t)) ∙ h)))
+
+-- a step of no kind is turned away, whatever is noted
+pub turned-away : (log : List ℕ) (i : ℕ) → (1 upto kind log i and kind log i upto 5) ≡ false → {m : Bool} {l b c p o w : List ℕ} → Takes log i record { number = 3; missed = m } l b c p o w
+turned-away log i n = record { says = no-such-kind log i n; noted = λ e. absurd (three e); told = λ e. absurd (three e) }
+  where
+    three : _≡_ {A = ℕ} 3 0 → ⊥
+    three z = omega arith
+
+-- WHAT IS NOTED BEHIND A STEP, by its kind
+module _ (log : List ℕ) (i : ℕ) {l b c p o w : List ℕ} (noted : Noted log i l b c p o w) where
+  -- nobody commits there
+  none-commits : (kind log i ≡ 4 → ⊥) → InOrder log (i + 1) c p o
+  unfolding does
+  none-commits k = record {
+    at-step = steps-skip log 4 i (noted .has-committed .at-step) k;
+    who = λ t. noted .has-committed .who t ∙ sym (some-skip i (does log 4 t) (and-no-left _ (→isnt k)));
+    after = order-skip log i (noted .has-committed .after) k;
+  }
+
+  pub behind-begin : {m d : List ℕ} → kind log i ≡ 1 → Lived log (i + 1) m → StepsBefore log 1 (i + 1) d → Noted log (i + 1) m d c p o w
+  behind-begin k lived begun = record {
+    has-lived = lived;
+    has-begun = begun;
+    has-committed = none-commits (λ (q : kind log i ≡ 4). omega arith);
+    has-written = write-skip log i (noted .has-written) (λ (q : kind log i ≡ 3). omega arith);
+    writes-size = noted .writes-size;
+  }
+
+  -- a read or a write, by the versions behind it
+  behind-touch : {v : List ℕ} → (kind log i ≡ 1 → ⊥) → (kind log i ≡ 4 → ⊥) → (kind log i ≡ 5 → ⊥) → Versions log (i + 1) v → length v ≡ suc transactions → Noted log (i + 1) l b c p o v
+  behind-touch begin commit abort versions size = record {
+    has-lived = lived-on log i (noted .has-lived) begin commit abort;
+    has-begun = steps-skip log 1 i (noted .has-begun) begin;
+    has-committed = none-commits commit;
+    has-written = versions;
+    writes-size = size;
+  }
+
+  pub behind-read : kind log i ≡ 2 → Noted log (i + 1) l b c p o w
+  behind-read k =
+      behind-touch (λ (q : kind log i ≡ 1). omega arith) (λ (q : kind log i ≡ 4). omega arith) (λ (q : kind log i ≡ 5). omega arith)
+      (write-skip log i (noted .has-written) (λ (q : kind log i ≡ 3). omega arith)) (noted .writes-size)
+
+  pub behind-write : {v : List ℕ} → kind log i ≡ 3 → Versions log (i + 1) v → length v ≡ suc transactions → Noted log (i + 1) l b c p o v
+  behind-write k = behind-touch (λ (q : kind log i ≡ 1). omega arith) (λ (q : kind log i ≡ 4). omega arith) (λ (q : kind log i ≡ 5). omega arith)
+
+  pub behind-commit : {m d q e : List ℕ} → kind log i ≡ 4 → Lived log (i + 1) m → InOrder log (i + 1) d q e → Noted log (i + 1) m b d q e w
+  behind-commit k lived order = record {
+    has-lived = lived;
+    has-begun = steps-skip log 1 i (noted .has-begun) (λ (q : kind log i ≡ 1). omega arith);
+    has-committed = order;
+    has-written = write-skip log i (noted .has-written) (λ (q : kind log i ≡ 3). omega arith);
+    writes-size = noted .writes-size;
+  }
+
+  pub behind-abort : {m : List ℕ} → kind log i ≡ 5 → Lived log (i + 1) m → Noted log (i + 1) m b c p o w
+  behind-abort k lived = record {
+    has-lived = lived;
+    has-begun = steps-skip log 1 i (noted .has-begun) (λ (q : kind log i ≡ 1). omega arith);
+    has-committed = none-commits (λ (q : kind log i ≡ 4). omega arith);
+    has-written = write-skip log i (noted .has-written) (λ (q : kind log i ≡ 3). omega arith);
     writes-size = noted .writes-size;
   }
 
 -- what is noted after the last step is what is to be learned
 pub who-learned : (log : List ℕ) {l b c p o w : List ℕ} → Noted log (steps log) l b c p o w → Committed log p
 unfolding does committed commits
-who-learned log noted = record { mark = noted .who-committed }
+who-learned log noted = record { mark = noted .has-committed .who }
 
 pub all-learned : (log : List ℕ) {l w : List ℕ} {r : Examined} → Noted log (steps log) l (r .begins) (r .commits) (r .part) (r .earlier) w → r .writes ≡ set w 0 0
     → r .own ≡ lowest (steps log) (own-fault log) → tried (steps log) (step-refusal log) ≡ Passed → Learned log r
 unfolding writer writes
 all-learned log {w} noted e own passed = record {
   begin-steps = steps-all log 1 (noted .has-begun);
-  commit-steps = steps-all log 4 (noted .has-committed);
+  commit-steps = steps-all log 4 (noted .has-committed .at-step);
   who = who-learned log noted;
-  order = noted .commit-order;
+  order = noted .has-committed .after;
   marks = rw e (all-written log (omega (arith, noted .writes-size)) nobody (noted .has-written));
   first-own = own;
 }

@@ -1,20 +1,30 @@
--- The numbers 1, 2, 7 to 9 and 11, from the answers to the questions that decide them.
-use mathlib.Core.Path.{_≡_, _∙_}
+-- The numbers 1 to 3, 7 to 9 and 11, from the answers to the questions that decide them.
+use mathlib.Core.Path.{_≡_, sym, ap, _∙_}
 use mathlib.Core.Bool.{true, false}
 use mathlib.Core.Logic.{_⊎_, ⊎-elim}
 use mathlib.Core.List.{List}
 use Prim.Native.Nat.{ℕ, suc, _%_}
+use native.Mathlib.Omega.{arith}
 use lib.ListN.{length, getD}
 use Rattle.words.specs.Tests.{_is_, _upto_, _and_, fails}
 use Rattle.words.proofs.Truth.{→and, and-no-left, and-no-right, →or-left, →or-right, or-no, →fails, →not-fails, →is, →isnt, →below, →not-below, upto→, not-upto→}
 use Rattle.verdict.specs.Limits.{transactions, most-steps}
 use Rattle.verdict.specs.Log.{steps, kind, tx, obj, src, begun, ended, wrote}
+use Rattle.verdict.specs.declared.answers.Checked.{Checked}
 use Rattle.verdict.specs.declared.answers.Checked.the-variants.{Passed, Refused}
-use Rattle.verdict.specs.Refusal.{_else-try_, tried, life-refusal, source-refusal, step-refusal, open-refusal, log-refusal}
-use Rattle.verdict.specs.Inner.Checking.{open-by-lives}
-use Rattle.verdict.proofs.Refused.{when-yes, when-no, first-yes, first-no}
+use Rattle.verdict.specs.Refusal.{_else-try_, tried, range-refusal, life-refusal, source-refusal, step-refusal, open-refusal, log-refusal}
+use Rattle.verdict.specs.Inner.Checking.{numbered, open-by-lives}
+use Rattle.verdict.proofs.Refused.{when-yes, when-no, first-yes, first-no, numbered-some, numbered-first, try-none}
 
 module _ (log : List ℕ) (i : ℕ) where
+  -- 3
+  pub no-such-kind : (1 upto kind log i and kind log i upto 5) ≡ false → numbered 3 i ≡ step-refusal log i
+  unfolding step-refusal range-refusal
+  no-such-kind n = numbered-first 3 i _ (numbered-some 3 i three ∙ sym (first-yes 3 i _ (→fails n))) three
+    where
+      three : _≡_ {A = ℕ} 3 0 → ⊥
+      three z = omega arith
+
   -- 7 and 8
   pub begun-again : kind log i ≡ 1 → begun log i (tx log i) ≡ true → life-refusal log i ≡ Refused 7 i
   unfolding life-refusal
@@ -41,10 +51,16 @@ module _ (log : List ℕ) (i : ℕ) where
     unfolding life-refusal
     under-way b e = first-no 7 i _ not-7 ∙ when-no 8 i (and-no-right _ (or-no _ e ∙ →not-fails b))
 
-  -- 9
-  pub no-read : (kind log i ≡ 2 → ⊥) → source-refusal log i ≡ Passed
+  -- 9, which only a read can get
+  no-read : (kind log i ≡ 2 → ⊥) → source-refusal log i ≡ Passed
   unfolding source-refusal
   no-read k = when-no 9 i (and-no-left _ (and-no-left _ (→isnt k)))
+
+  pub no-source : (kind log i ≡ 2 → ⊥) → (range-refusal i (kind log i) (tx log i) (obj log i) (src log i) else-try life-refusal log i) ≡ step-refusal log i
+  unfolding step-refusal
+  no-source k =
+      ap (λ (r : Checked). range-refusal i (kind log i) (tx log i) (obj log i) (src log i) else-try r)
+      (sym (ap (λ (r : Checked). life-refusal log i else-try r) (no-read k) ∙ try-none (life-refusal log i)))
 
   module _ (k : kind log i ≡ 2) where
     pub never-wrote : (src log i ≡ 0 → ⊥) → wrote log i (src log i) (obj log i) ≡ false → source-refusal log i ≡ Refused 9 i

@@ -41,6 +41,17 @@ pub tried-passed : {f : Checked} (s : Checked) → f ≡ Passed → (f else-try 
 unfolding _else-try_
 tried-passed s e = ap (λ (z : Checked). z else-try s) e
 
+-- what is tried last where nothing applies, and what is tried after two that are tried as one
+pub try-none : (a : Checked) → (a else-try Passed) ≡ a
+unfolding _else-try_
+try-none Passed = refl
+try-none (Refused n p) = refl
+
+pub try-last : (a b s : Checked) → ((a else-try b) else-try s) ≡ (a else-try b else-try s)
+unfolding _else-try_
+try-last Passed b s = refl
+try-last (Refused n p) b s = refl
+
 -- what is tried after two others is tried after both
 pub try-more : (a b l s : Checked) → (a else-try b else-try l else-try s) ≡ ((a else-try b else-try l) else-try s)
 unfolding _else-try_

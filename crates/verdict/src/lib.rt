@@ -14,6 +14,7 @@ mod search;
 mod snapshots;
 mod step;
 mod tables;
+mod taking;
 mod version_graph;
 mod walk;
 

@@ -1,9 +1,9 @@
 // Reads after their transaction's own write of the object that name another source, and the first of them that is a fault.
 use crate::edges::takes_part;
 use crate::limits::Transaction;
-use crate::refusal::EVERY_OBJECT;
 use crate::step::Step;
 use crate::step::step_at;
+use crate::walk::EVERY_OBJECT;
 use crate::walk::index;
 use crate::walk::object_marked;
 ghost use mathlib.Core.Path.{_≡_};
@@ -53,7 +53,7 @@ fn is_own_fault(
 }
 
 // The versions that are there behind step i.
-fn note_version(log: &[u16], i: usize, versions: &mut [u64; Transaction::TABLE])
+pub(crate) fn note_version(log: &[u16], i: usize, versions: &mut [u64; Transaction::TABLE])
     requires { ⌜ (4 * i + 4 ≤ length (now log)) × InRange (now log) i × Versions (now log) i (now versions) × (length (now versions) ≡ suc transactions) ⌝ }
     ensures { λ _. ⌜ Versions (now (log .entry)) (i + 1) (now (versions .exit)) × (length (now (versions .exit)) ≡ suc transactions) ⌝ }
 {

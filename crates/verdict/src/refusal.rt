@@ -2,25 +2,18 @@
 use crate::answers::Checked;
 use crate::limits::Log;
 use crate::limits::MadeLog;
-use crate::limits::MadeObject;
-use crate::limits::MadeTransaction;
-use crate::limits::Object;
 use crate::limits::Transaction;
-use crate::own_reads::misses;
 use crate::own_reads::own_fault;
-use crate::step::Step;
-use crate::step::step_at;
-use crate::walk::index;
-use crate::walk::object_marked;
+use crate::taking::take_step;
+use crate::walk::EVERY_OBJECT;
 ghost use mathlib.Core.Path.{_≡_};
-ghost use Prim.Native.Nat.{ℕ, suc, _≤_, _<_, _+_, _*_};
+ghost use Prim.Native.Nat.{suc, _≤_};
 ghost use lib.ListN.{length};
 ghost use Rattle.words.specs.Tests.{_is_, fails, if_then_else_};
 ghost use Rattle.verdict.specs.Limits.{transactions, most-steps, witness-entries, work-bytes};
-ghost use Rattle.verdict.specs.Log.{steps, tx};
-ghost use Rattle.verdict.specs.Refusal.{_at_when_, _else-try_, tried, range-refusal, life-refusal, source-refusal, step-refusal, open-refusal, log-refusal};
-ghost use Rattle.verdict.specs.Inner.Checking.{numbered, Allowing, in-range, open-by-lives, InRange, Lived, Noted, Walks, Examines};
-ghost use Rattle.verdict.specs.Inner.WriteTable.{Versions};
+ghost use Rattle.verdict.specs.Log.{steps};
+ghost use Rattle.verdict.specs.Refusal.{_at_when_, _else-try_, tried, step-refusal, open-refusal, log-refusal};
+ghost use Rattle.verdict.specs.Inner.Checking.{open-by-lives, Noted, Walks, Examines};
 ghost use Rattle.verdict.specs.declared.answers.Checked.the-variants.{Passed, Refused};
 
 // What the check finds: its answer and, where nothing turns the log away, for each transaction the steps at which it begins and commits (the
@@ -34,181 +27,6 @@ pub(crate) struct Examined {
     pub earlier: [u16; Transaction::TABLE],
     pub writes: [u64; Transaction::TABLE],
     pub own: usize,
-}
-
-// What the kind of a step allows: how many objects, from 0 on, and the highest source.
-struct Ranges {
-    objects: u16,
-    source: u16,
-}
-
-// Any object and any source, or only 0; and no object at all where there is no such kind.
-fn ranges_of(k: u16) -> Ranges
-    ensures { λ r. ⌜ Allowing k r ⌝ }
-{
-    match k {
-        Step::BEGIN => Ranges {
-            objects: 1,
-            source: 0,
-        },
-        Step::READ => Ranges {
-            objects: Object::LIMIT,
-            source: Transaction::LIMIT,
-        },
-        Step::WRITE => Ranges {
-            objects: Object::LIMIT,
-            source: 0,
-        },
-        Step::COMMIT => Ranges {
-            objects: 1,
-            source: 0,
-        },
-        Step::ABORT => Ranges {
-            objects: 1,
-            source: 0,
-        },
-        _ => Ranges {
-            objects: 0,
-            source: 0,
-        },
-    }
-}
-
-// The first of 4, 5 and 6 that applies, by what the kind allows; 0 if none does.
-fn in_range(t: u16, x: u16, s: u16, allowed: Ranges) -> u16
-    ensures { λ r. ⌜ ((place : ℕ) → numbered r place ≡ in-range place t x s allowed) ⌝ }
-{
-    let transaction = Transaction::of(t);
-    let MadeTransaction::Within(_) = transaction else {
-        return 4;
-    };
-    let object = Object::of(x);
-    let MadeObject::Within(_) = object else {
-        return 5;
-    };
-    if allowed.objects <= x {
-        return 5;
-    }
-    if allowed.source < s {
-        return 6;
-    }
-    0
-}
-
-// The first of 3 to 6 that applies to the numbers of a step; 0 if none does.
-fn range_number(k: u16, t: u16, x: u16, s: u16) -> u16
-    ensures { λ r. ⌜ ((place : ℕ) → numbered r place ≡ range-refusal place k t x s) ⌝ }
-{
-    let allowed = ranges_of(k);
-    if allowed.objects == 0 {
-        return 3;
-    }
-    in_range(t, x, s, allowed)
-}
-
-// How far a transaction has to have come before a step of this kind: a begin is its first, and it is open at any other.
-fn awaited(k: u16) -> u8
-    ensures { λ r. ⌜ r ≡ (if k is 1 then 0 else 1) ⌝ }
-{
-    if k == Step::BEGIN {
-        return 0;
-    }
-    1
-}
-
-// 7 or 8, where it applies to step i, by how far each transaction has come before it; else 0.
-fn life_number(log: &[u16], i: usize, lives: &[u8; Transaction::TABLE]) -> u16
-    requires { ⌜ (4 * i + 4 ≤ length (now log)) × (tx (now log) i ≤ transactions) × Lived (now log) i (now lives) ⌝ }
-    ensures { λ r. ⌜ numbered r i ≡ life-refusal (now (log .entry)) i ⌝ }
-{
-    let step = step_at(log, i);
-    let life = lives[index(step.tx)];
-    if life == awaited(step.kind) {
-        return 0;
-    }
-    if step.kind == Step::BEGIN {
-        return 7;
-    }
-    8
-}
-
-// Marks of every object.
-pub(crate) const EVERY_OBJECT: u64 = 18446744073709551615;
-
-// 9, where it applies to step i, by the versions that are there before it; else 0.
-fn source_number(log: &[u16], i: usize, versions: &[u64; Transaction::TABLE]) -> u16
-    requires { ⌜ (4 * i + 4 ≤ length (now log)) × InRange (now log) i × Versions (now log) i (now versions) ⌝ }
-    ensures { λ r. ⌜ numbered r i ≡ source-refusal (now (log .entry)) i ⌝ }
-{
-    let step = step_at(log, i);
-    if step.kind != Step::READ {
-        return 0;
-    }
-    if !object_marked(versions, step.src, step.obj) {
-        return 9;
-    }
-    0
-}
-
-// The first of 3 to 9 that applies to step i, by what is noted of the steps before it; 0 if none does.
-fn step_number(
-    log: &[u16],
-    i: usize,
-    lives: &[u8; Transaction::TABLE],
-    versions: &[u64; Transaction::TABLE],
-) -> u16
-    requires { ⌜ (4 * i + 4 ≤ length (now log)) × Lived (now log) i (now lives) × Versions (now log) i (now versions) ⌝ }
-    ensures { λ r. ⌜ numbered r i ≡ step-refusal (now (log .entry)) i ⌝ }
-{
-    let step = step_at(log, i);
-    let range = range_number(step.kind, step.tx, step.obj, step.src);
-    if range != 0 {
-        return range;
-    }
-    let life = life_number(log, i, lives);
-    if life != 0 {
-        return life;
-    }
-    source_number(log, i, versions)
-}
-
-// Notes step i, which no number turns away: who begins, who ends, who writes what.
-fn note_step(
-    log: &[u16],
-    i: usize,
-    lives: &mut [u8; Transaction::TABLE],
-    begins: &mut [u16; Transaction::TABLE],
-    commits: &mut [u16; Transaction::TABLE],
-    part: &mut [u64; graph::WORDS],
-    earlier: &mut [u16; Transaction::TABLE],
-    versions: &mut [u64; Transaction::TABLE],
-)
-    requires { ⌜ (i < steps (now log)) × (steps (now log) ≤ most-steps) × (step-refusal (now log) i ≡ Passed)
-        × Noted (now log) i (now lives) (now begins) (now commits) (now part) (now earlier) (now versions) ⌝ }
-    ensures { λ _. ⌜ Noted (now (log .entry)) (i + 1) (now (lives .exit)) (now (begins .exit)) (now (commits .exit)) (now (part .exit)) (now (earlier .exit)) (now (versions .exit)) ⌝ }
-{
-    let step = step_at(log, i);
-    let t = index(step.tx);
-    if step.kind == Step::WRITE {
-        let x = index(step.obj);
-        versions[t] = bits::with_mark(versions[t], x);
-        return;
-    }
-    if step.kind == Step::READ {
-        return;
-    }
-    if step.kind == Step::BEGIN {
-        lives[t] = 1;
-        begins[t] = i as u16;
-        return;
-    }
-    lives[t] = 2;
-    if step.kind == Step::COMMIT {
-        commits[t] = i as u16;
-        *part = graph::with_vertex(*part, t);
-        earlier[t] = earlier[0];
-        earlier[0] = t as u16;
-    }
 }
 
 // 11, at the lowest transaction that is open, by how far each has come.
@@ -265,18 +83,17 @@ fn walk_steps(
     let mut missed = false;
     let mut i = 0;
     while i < n {
-        let number = step_number(log, i, lives, versions);
-        if number != 0 {
+        let taken = take_step(log, i, lives, begins, commits, part, earlier, versions);
+        if taken.number != 0 {
             return Walked {
-                number,
+                number: taken.number,
                 place: i,
                 missed,
             };
         }
-        if misses(log, i, versions) {
+        if taken.missed {
             missed = true;
         }
-        note_step(log, i, lives, begins, commits, part, earlier, versions);
         i += 1;
     }
     Walked {

@@ -33,6 +33,9 @@ pub fn committed_count(log: &[u16]) -> usize
     total
 }
 
+// Marks of every object.
+pub(crate) const EVERY_OBJECT: u64 = 18446744073709551615;
+
 // Whether t writes x, by the marks of what each transaction writes.
 pub(crate) fn object_marked(writes: &[u64; Transaction::TABLE], t: u16, x: u16) -> bool
     requires { ⌜ t ≤ transactions ⌝ }

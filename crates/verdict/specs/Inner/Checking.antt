@@ -2,7 +2,7 @@
 use mathlib.Core.Path.{_≡_}
 use mathlib.Core.Bool.{true, false}
 use mathlib.Core.List.{List}
-use Prim.Native.Nat.{ℕ, zero, suc, _≤_, _<_}
+use Prim.Native.Nat.{ℕ, zero, suc, _+_, _≤_, _<_}
 use lib.ListN.{length, getD}
 use Rattle.words.specs.Tests.{_is_, _below_, _upto_, _and_, fails, if_then_else_, some, lowest}
 use Rattle.graph.specs.Matrix.{takes-part}
@@ -14,8 +14,9 @@ use Rattle.verdict.specs.Inner.Marks.{does, Committed, FirstSteps}
 use Rattle.verdict.specs.Inner.WriteTable.{Versions, WriteTable}
 use Rattle.verdict.specs.Inner.OwnReads.{misses}
 use Rattle.verdict.specs.declared.refusal.Examined.{Examined}
-use Rattle.verdict.specs.declared.refusal.Ranges.{Ranges}
 use Rattle.verdict.specs.declared.refusal.Walked.{Walked}
+use Rattle.verdict.specs.declared.taking.Asked.{Asked}
+use Rattle.verdict.specs.declared.taking.Taken.{Taken}
 use Rattle.verdict.specs.declared.answers.Checked.{Checked}
 use Rattle.verdict.specs.declared.answers.Checked.the-variants.{Passed}
 
@@ -23,14 +24,16 @@ use Rattle.verdict.specs.declared.answers.Checked.the-variants.{Passed}
 unfoldable pub numbered : ℕ → ℕ → Checked
 numbered n place = n at place when fails (n is 0)
 
--- what a kind allows: the objects and the source of a step of kind k; no object where there is no such kind
-pub record Allowing (k : ℕ) (r : Ranges) : Type 0 where
-  pub kinds : fails (r .objects is 0) ≡ (1 upto k and k upto 5)
-  pub object : (x : ℕ) → (1 upto k and k upto 5) ≡ true → (x below objects and x below (r .objects)) ≡ object-allowed k x
-  pub source : (s : ℕ) → (1 upto k and k upto 5) ≡ true → (s upto (r .source)) ≡ source-allowed k s
+-- what a kind asks: the object and the source of a step of kind k, how far its transaction has come, and the number of a step whose transaction has not
+pub record Asks (k : ℕ) (r : Asked) : Type 0 where
+  pub known : (1 upto k and k upto 5) ≡ true
+  pub object : (x : ℕ) → (x below objects and x below (r .objects)) ≡ object-allowed k x
+  pub source : (s : ℕ) → (s upto (r .source)) ≡ source-allowed k s
+  pub far : r .life ≡ (if k is 1 then 0 else 1)
+  pub number : r .late ≡ (if k is 1 then 7 else 8)
 
--- 4 to 6, by what the kind allows
-unfoldable pub in-range : ℕ → ℕ → ℕ → ℕ → Ranges → Checked
+-- 4 to 6, by what the kind asks
+unfoldable pub in-range : ℕ → ℕ → ℕ → ℕ → Asked → Checked
 in-range place t x s r =
     4 at place when fails (1 upto t and t upto transactions)
     else-try 5 at place when fails (x below objects and x below (r .objects))
@@ -63,6 +66,12 @@ module _ (log : List ℕ) where
     pub before : (j : ℕ) → j < i → kind log j ≡ 4 → getD table (tx log j) 0 ≡ committer j
     pub named : (j : ℕ) → j < i → kind log j ≡ 4 → 1 ≤ tx log j
 
+  -- who commits before step i: at which step, whether, and after whom
+  pub record InOrder (i : ℕ) (commits part earlier : List ℕ) : Type 0 where
+    pub at-step : StepsBefore 4 i commits
+    pub who : (t : ℕ) → takes-part transactions part t ≡ some i (does log 4 t)
+    pub after : CommitOrder i earlier
+
   module _ (i : ℕ) where
     -- none of 3 to 6 applies to step i
     unfoldable pub InRange : Type 0
@@ -78,11 +87,15 @@ module _ (log : List ℕ) where
     pub record Noted (lives begins commits part earlier writes : List ℕ) : Type 0 where
       pub has-lived : Lived lives
       pub has-begun : StepsBefore 1 i begins
-      pub has-committed : StepsBefore 4 i commits
-      pub who-committed : (t : ℕ) → takes-part transactions part t ≡ some i (does log 4 t)
-      pub commit-order : CommitOrder i earlier
+      pub has-committed : InOrder i commits part earlier
       pub has-written : Versions log i writes
       pub writes-size : length writes ≡ suc transactions
+
+  -- what taking step i finds: the number that turns it away, or what is noted behind it and whether it misses its own write
+  pub record Takes (i : ℕ) (r : Taken) (lives begins commits part earlier writes : List ℕ) : Type 0 where
+    pub says : numbered (r .number) i ≡ step-refusal log i
+    pub noted : r .number ≡ 0 → Noted (i + 1) lives begins commits part earlier writes
+    pub told : r .number ≡ 0 → r .missed ≡ misses log i
 
   -- what the walk over all steps finds: the number that turns one away, or what is noted behind the last and whether one misses its own write
   pub record Walks (r : Walked) (lives begins commits part earlier writes : List ℕ) : Type 0 where

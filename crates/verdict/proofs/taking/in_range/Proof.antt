@@ -10,8 +10,8 @@ use Rattle.verdict.specs.Limits.{transactions, objects, make-transaction
 use Rattle.verdict.specs.Refusal.{_at_when_}
 use Rattle.verdict.specs.Inner.Checking.{numbered, in-range}
 use Rattle.verdict.proofs.Refused.{when-yes, when-no, first-yes, first-no, chose-first, chose-second}
-use Rattle.verdict.proofs.refusal.in_range.Statement.{statement}
-use Rattle.verdict.proofs.refusal.in_range.Tie as tie
+use Rattle.verdict.proofs.taking.in_range.Statement.{statement}
+use Rattle.verdict.proofs.taking.in_range.Tie as tie
 
 -- the entry, from where the transaction is within the limit, and that place, from where the object is
 abbrev entry : tie.After-enum-told → tie.Start
@@ -29,7 +29,7 @@ unfolding make-object
 object-in c = chose-first _ _ _ (sym (c .before .before .of2 .ensures) ∙ c .enum-told3 .given .1) (λ e. let z : _≡_ {A = ℕ} 0 1 = cc in omega arith)
 
 -- .. and the kind allows it
-allowed : (c : tie.Else1) → let a = entry (taken (c .before .before)) .args in (a .x below objects and a .x below (a .allowed .objects)) ≡ true
+allowed : (c : tie.Else1) → let a = entry (taken (c .before .before)) .args in (a .x below objects and a .x below (a .asked .objects)) ≡ true
 allowed c = →and (object-in (c .before .before)) (→below (c .if1 .left))
 
 of-requires : tie.Need-of-requires
