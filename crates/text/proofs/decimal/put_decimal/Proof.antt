@@ -1,4 +1,4 @@
--- `put_decimal` meets its contract: one digit, two, or one after another.
+-- `put_decimal` meets its contract: one digit, two, or more.
 use borrow.Author.Needs.{needs}
 use native.Mathlib.Omega.{arith}
 use Prim.Native.Nat.{_<_, _/_}
@@ -63,8 +63,8 @@ returns-2 c =
     let s = entry e in
     last-put (s .args .n) (e .if1 .left) (s .args .out .now) (s .args .at) (s .pre) (first-put f) (p .put-digit3 .ensures)
 
-put-digits-requires : tie.Need-put-digits-requires
-put-digits-requires c κs = search needs
+put-long-requires : tie.Need-put-long-requires
+put-long-requires c κs = let e = c .before in (e .if2 .left, entry (e .before) .pre)
 
 same-length-3 : tie.Need-same-length-3
 same-length-3 c = search needs
@@ -83,6 +83,6 @@ put-decimal-spec =
     put-digit-requires-3
     same-length-2
     returns-2
-    put-digits-requires
+    put-long-requires
     same-length-3
     returns-3)
