@@ -10,6 +10,7 @@ use crate::step::step_at;
 use crate::walk::index;
 use crate::walk::object_marked;
 ghost use mathlib.Core.Path.{_≡_};
+ghost use mathlib.Core.Logic.{_⊎_};
 ghost use Prim.Native.Nat.{ℕ, suc, _≤_, _<_, _+_, _*_};
 ghost use lib.ListN.{length};
 ghost use Rattle.verdict.specs.Limits.{transactions, most-steps};
@@ -167,42 +168,9 @@ fn take_write(
     0
 }
 
-// A commit.
-fn take_commit(
-    log: &[u16],
-    i: usize,
-    lives: &mut [u8; Transaction::TABLE],
-    commits: &mut [u16; Transaction::TABLE],
-    part: &mut [u64; graph::WORDS],
-    earlier: &mut [u16; Transaction::TABLE],
-) -> u16
-    requires { ⌜ (i < steps (now log)) × (steps (now log) ≤ most-steps) × (kind (now log) i ≡ 4) × Lived (now log) i (now lives) × InOrder (now log) i (now commits) (now part) (now earlier) ⌝ }
-    ensures { λ r. ⌜ (numbered r i ≡ step-refusal (now (log .entry)) i)
-        × (r ≡ 0 → Lived (now (log .entry)) (i + 1) (now (lives .exit)) × InOrder (now (log .entry)) (i + 1) (now (commits .exit)) (now (part .exit)) (now (earlier .exit))) ⌝ }
-{
-    let asked = Asked {
-        objects: 1,
-        source: 0,
-        life: 1,
-        late: 8,
-    };
-    let number = first_number(log, i, lives, asked);
-    if number != 0 {
-        return number;
-    }
-    let step = step_at(log, i);
-    let t = index(step.tx);
-    lives[t] = 2;
-    commits[t] = i as u16;
-    *part = graph::with_vertex(*part, t);
-    earlier[t] = earlier[0];
-    earlier[0] = t as u16;
-    0
-}
-
-// An abort.
-fn take_abort(log: &[u16], i: usize, lives: &mut [u8; Transaction::TABLE]) -> u16
-    requires { ⌜ (i < steps (now log)) × (kind (now log) i ≡ 5) × Lived (now log) i (now lives) ⌝ }
+// An end, by commit or abort.
+fn take_end(log: &[u16], i: usize, lives: &mut [u8; Transaction::TABLE]) -> u16
+    requires { ⌜ (i < steps (now log)) × ((kind (now log) i ≡ 4) ⊎ (kind (now log) i ≡ 5)) × Lived (now log) i (now lives) ⌝ }
     ensures { λ r. ⌜ (numbered r i ≡ step-refusal (now (log .entry)) i) × (r ≡ 0 → Lived (now (log .entry)) (i + 1) (now (lives .exit))) ⌝ }
 {
     let asked = Asked {
@@ -218,6 +186,32 @@ fn take_abort(log: &[u16], i: usize, lives: &mut [u8; Transaction::TABLE]) -> u1
     let step = step_at(log, i);
     let t = index(step.tx);
     lives[t] = 2;
+    0
+}
+
+// A commit: an end, and who commits is noted.
+fn take_commit(
+    log: &[u16],
+    i: usize,
+    lives: &mut [u8; Transaction::TABLE],
+    commits: &mut [u16; Transaction::TABLE],
+    part: &mut [u64; graph::WORDS],
+    earlier: &mut [u16; Transaction::TABLE],
+) -> u16
+    requires { ⌜ (i < steps (now log)) × (steps (now log) ≤ most-steps) × (kind (now log) i ≡ 4) × Lived (now log) i (now lives) × InOrder (now log) i (now commits) (now part) (now earlier) ⌝ }
+    ensures { λ r. ⌜ (numbered r i ≡ step-refusal (now (log .entry)) i)
+        × (r ≡ 0 → Lived (now (log .entry)) (i + 1) (now (lives .exit)) × InOrder (now (log .entry)) (i + 1) (now (commits .exit)) (now (part .exit)) (now (earlier .exit))) ⌝ }
+{
+    let number = take_end(log, i, lives);
+    if number != 0 {
+        return number;
+    }
+    let step = step_at(log, i);
+    let t = index(step.tx);
+    commits[t] = i as u16;
+    *part = graph::with_vertex(*part, t);
+    earlier[t] = earlier[0];
+    earlier[0] = t as u16;
     0
 }
 
@@ -252,7 +246,7 @@ pub(crate) fn take_step(
             missed: false,
         },
         Step::ABORT => Taken {
-            number: take_abort(log, i, lives),
+            number: take_end(log, i, lives),
             missed: false,
         },
         _ => Taken {

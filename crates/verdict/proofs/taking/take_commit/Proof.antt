@@ -6,27 +6,20 @@ use native.Mathlib.Omega.{arith}
 use borrow.Author.Needs.{needs}
 use Rattle.verdict.specs.Log.{steps, tx}
 use Rattle.verdict.specs.Refusal.{step-refusal}
-use Rattle.verdict.specs.Inner.Checking.{numbered}
 use Rattle.verdict.specs.declared.answers.Checked.the-variants.{Passed}
-use Rattle.verdict.proofs.Asking.{asks-end}
-use Rattle.verdict.proofs.Noting.{end-lives, commit-noted}
-use Rattle.verdict.proofs.Numbers.{no-source}
+use Rattle.verdict.proofs.Noting.{commit-noted}
 use Rattle.verdict.proofs.Refused.{numbered-none}
 use Rattle.verdict.proofs.WellFormed.{step-within, tx-within}
 use Rattle.verdict.proofs.taking.take_commit.Statement.{statement}
 use Rattle.verdict.proofs.taking.take_commit.Tie as tie
 
--- the entry, from where the step's number is known
-abbrev entry : tie.After-first-number → tie.Start
+-- the entry, from where the end is taken
+abbrev entry : tie.After-take-end → tie.Start
 entry c = c .before .before .before
-
--- that number is the first of all
-number-is : (c : tie.After-first-number) → let a = entry c .args in numbered (c .first-number .result) (a .i) ≡ step-refusal (a .log .now) (a .i)
-number-is c = c .first-number .ensures ∙ no-source _ _ (λ e. omega (arith, e, entry c .pre .2))
 
 -- no number turns the step away
 passed : (c : tie.Else1) → let a = entry (c .before) .args in step-refusal (a .log .now) (a .i) ≡ Passed
-passed c = sym (number-is (c .before)) ∙ numbered-none _ _ (c .if1 .left)
+passed c = sym (c .before .take-end .ensures .0) ∙ numbered-none _ _ (c .if1 .left)
 
 -- .. and its transaction is within the limit
 abbrev taken : tie.After-index → tie.Else1
@@ -38,14 +31,11 @@ tx-is c = c .index .ensures ∙ c .before .step-at .ensures .tx-is
 place-in : (c : tie.After-index) → c .index .result < 129
 place-in c = omega (arith, tx-is c, tx-within _ _ (step-within _ _ (passed (taken c))) .1)
 
-first-number-requires : tie.Need-first-number-requires
-unfolding steps
-first-number-requires c κs =
-    let known = c .before .before .pre in
-    (omega (arith, known .0), known .3, asks-end (inl (known .2)))
+take-end-requires : tie.Need-take-end-requires
+take-end-requires c κs = let known = c .before .before .pre in (known .0, inl (known .2), known .3)
 
 returns : tie.Need-returns
-returns c = (number-is (c .before), λ e. absurd (c .if1 .taken e))
+returns c = (c .before .take-end .ensures .0, λ e. absurd (c .if1 .taken e))
 
 step-at-requires : tie.Need-step-at-requires
 unfolding steps
@@ -53,9 +43,6 @@ step-at-requires c κs = omega (arith, entry (c .before) .pre .0)
 
 index-requires : tie.Need-index-requires
 index-requires c κs = search needs
-
-element-write-lives : tie.Need-element-write-lives
-element-write-lives c = place-in c
 
 cast-commits : tie.Need-cast-commits
 cast-commits c = search needs
@@ -91,7 +78,7 @@ returns-2 c =
     let known = entry (here .before) .pre in (
       numbered-none _ _ refl ∙ sym (passed here),
       λ _. (
-        rw (tx-is place) (end-lives _ _ (passed here) (inl (known .2)) (known .3)),
+        here .before .take-end .ensures .1 (here .if1 .left),
         rw (tx-is place) (commit-noted _ _ (passed here) (known .2) (known .4) (rw (tx-is place) at (c .before .with-vertex .ensures))),
       ),
     )
@@ -100,11 +87,10 @@ pub take-commit-spec : {M : Type 1} → statement M
 take-commit-spec =
     tie.close
     (tie.spec
-    first-number-requires
+    take-end-requires
     returns
     step-at-requires
     index-requires
-    element-write-lives
     cast-commits
     mul-commits
     element-write-commits

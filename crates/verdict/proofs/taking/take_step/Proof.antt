@@ -1,5 +1,6 @@
 -- `take_step` meets its contract.
 use mathlib.Core.Path.{_≡_, sym, _∙_}
+use mathlib.Core.Logic.{inr}
 use native.Mathlib.Omega.{arith}
 use Rattle.words.proofs.Truth.{to-false, and→, upto→}
 use Rattle.verdict.specs.Log.{steps, kind}
@@ -56,11 +57,11 @@ take-commit-requires c κs =
     let known = entry (here .before) .pre in
     (known .0, known .1, is-commit here, known .2 .has-lived, known .2 .has-committed)
 
-take-abort-requires : tie.Need-take-abort-requires
-take-abort-requires c κs =
+take-end-requires : tie.Need-take-end-requires
+take-end-requires c κs =
     let here = c .before in
     let known = entry (here .before) .pre in
-    (known .0, is-abort here, known .2 .has-lived)
+    (known .0, inr (is-abort here), known .2 .has-lived)
 
 returns : tie.Need-returns
 returns c =
@@ -101,7 +102,7 @@ returns-4 c =
 returns-5 : tie.Need-returns-5
 returns-5 c =
     let here = c .before .before in
-    let ends = c .take-abort .ensures in
+    let ends = c .take-end .ensures in
     record {
       says = ends .0;
       noted = λ e. behind-abort _ _ (entry (here .before) .pre .2) (is-abort here) (ends .1 e);
@@ -123,7 +124,7 @@ take-step-spec =
     take-read-requires
     take-write-requires
     take-commit-requires
-    take-abort-requires
+    take-end-requires
     returns
     returns-2
     returns-3

@@ -1,6 +1,6 @@
--- `take_abort` meets its contract.
+-- `take_end` meets its contract.
 use mathlib.Core.Path.{_≡_, refl, sym, _∙_}
-use mathlib.Core.Logic.{inr}
+use mathlib.Core.Logic.{⊎-elim}
 use Prim.Native.Nat.{_<_}
 use native.Mathlib.Omega.{arith}
 use borrow.Author.Needs.{needs}
@@ -13,8 +13,8 @@ use Rattle.verdict.proofs.Noting.{end-lives}
 use Rattle.verdict.proofs.Numbers.{no-source}
 use Rattle.verdict.proofs.Refused.{numbered-none}
 use Rattle.verdict.proofs.WellFormed.{step-within, tx-within}
-use Rattle.verdict.proofs.taking.take_abort.Statement.{statement}
-use Rattle.verdict.proofs.taking.take_abort.Tie as tie
+use Rattle.verdict.proofs.taking.take_end.Statement.{statement}
+use Rattle.verdict.proofs.taking.take_end.Tie as tie
 
 -- the entry, from where the step's number is known
 abbrev entry : tie.After-first-number → tie.Start
@@ -22,7 +22,7 @@ entry c = c .before .before .before
 
 -- that number is the first of all
 number-is : (c : tie.After-first-number) → let a = entry c .args in numbered (c .first-number .result) (a .i) ≡ step-refusal (a .log .now) (a .i)
-number-is c = c .first-number .ensures ∙ no-source _ _ (λ e. omega (arith, e, entry c .pre .1))
+number-is c = c .first-number .ensures ∙ no-source _ _ (λ e. ⊎-elim (λ k. omega (arith, e, k)) (λ k. omega (arith, e, k)) (entry c .pre .1))
 
 -- no number turns the step away
 passed : (c : tie.Else1) → let a = entry (c .before) .args in step-refusal (a .log .now) (a .i) ≡ Passed
@@ -42,7 +42,7 @@ first-number-requires : tie.Need-first-number-requires
 unfolding steps
 first-number-requires c κs =
     let known = c .before .before .pre in
-    (omega (arith, known .0), known .2, asks-end (inr (known .1)))
+    (omega (arith, known .0), known .2, asks-end (known .1))
 
 returns : tie.Need-returns
 returns c = (number-is (c .before), λ e. absurd (c .if1 .taken e))
@@ -61,9 +61,9 @@ returns-2 : tie.Need-returns-2
 returns-2 c =
     let here = taken c in
     let known = entry (here .before) .pre in
-    (numbered-none _ _ refl ∙ sym (passed here), λ _. rw (tx-is c) (end-lives _ _ (passed here) (inr (known .1)) (known .2)))
+    (numbered-none _ _ refl ∙ sym (passed here), λ _. rw (tx-is c) (end-lives _ _ (passed here) (known .1) (known .2)))
 
-pub take-abort-spec : {M : Type 1} → statement M
-take-abort-spec =
+pub take-end-spec : {M : Type 1} → statement M
+take-end-spec =
     tie.close
     (tie.spec first-number-requires returns step-at-requires index-requires element-write-lives returns-2)
