@@ -35,7 +35,7 @@ static unsigned differ_on_listing(const char *where, const struct log *l)
     unsigned bad = 0;
     uint64_t our_answer, peer_answer = judge_log(&peer, 3, l, &by_peer);
     while (KRUPOVESH_KIND(peer_answer) == KRUPOVESH_ORDER && bad == 0) {
-        memcpy(by_peer.order, by_peer.witness, sizeof by_peer.order);
+        hand_over(&by_peer);
         memset(by_peer.work, 0xa5, sizeof by_peer.work);
         memset(by_peer.witness, 0xa5, sizeof by_peer.witness);
         by_ours = by_peer;

@@ -1,8 +1,6 @@
 /* The calls of ours and of the peer, behind one face. */
 #include "judges.h"
 
-#include <string.h>
-
 #include "peer.h"
 
 typedef uint64_t over_log(const uint16_t *, size_t, uint8_t *, size_t);
@@ -39,6 +37,12 @@ uint64_t judge_log(const struct judge *j, unsigned verdict, const struct log *l,
     }
 }
 
+void hand_over(struct buffers *b)
+{
+    for (unsigned i = 0; i < KRUPOVESH_HANDED; i++)
+        b->order[i] = b->witness[KRUPOVESH_ENTRY * i];
+}
+
 uint64_t judge_next(const struct judge *j, const struct log *l, struct buffers *b)
 {
     return j->next(l->numbers, l->length, b->order, KRUPOVESH_HANDED, b->work, KRUPOVESH_WORK,
@@ -51,7 +55,7 @@ unsigned judge_listing(const struct judge *j, const struct log *l, struct buffer
     uint64_t result = j->version(l->numbers, l->length, b->work, KRUPOVESH_WORK, b->witness, KRUPOVESH_WITNESS);
     while (KRUPOVESH_KIND(result) == KRUPOVESH_ORDER) {
         orders++;
-        memcpy(b->order, b->witness, sizeof b->order);
+        hand_over(b);
         result = judge_next(j, l, b);
     }
     return orders;

@@ -25,6 +25,9 @@ struct buffers {
 /* One call of one verdict. */
 uint64_t judge_log(const struct judge *j, unsigned verdict, const struct log *l, struct buffers *b);
 
+/* Takes the members of the order in the witness over into b->order: the first number of each entry. */
+void hand_over(struct buffers *b);
+
 /* One call of "next" after b->order. */
 uint64_t judge_next(const struct judge *j, const struct log *l, struct buffers *b);
 

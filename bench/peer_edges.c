@@ -42,19 +42,18 @@ static void add_edge(struct graph *g, unsigned from, unsigned to)
 }
 
 /* The log has to be clean. */
-void version_graph(const struct history *h, struct graph *g)
+void version_graph(const struct history *h, struct graph *g, struct versions *v)
 {
     uint8_t last[OBJECTS] = {0};
-    uint8_t following[TRANSACTIONS + 1][OBJECTS]; /* the writer of the next version, or 0 */
 
     start_graph(h, g);
-    memset(following, 0, sizeof following);
+    memset(v, 0, sizeof *v);
     for (unsigned i = 0; i < h->committed; i++) {
         unsigned t = h->by_commit[i];
         for (uint64_t rest = h->wrote[t]; rest != 0; rest = without_lowest(rest)) {
             unsigned x = lowest_bit(rest);
             add_edge(g, last[x], t);
-            following[last[x]][x] = (uint8_t)t;
+            v->following[last[x]][x] = (uint8_t)t;
             last[x] = (uint8_t)t;
         }
     }
@@ -63,7 +62,7 @@ void version_graph(const struct history *h, struct graph *g)
         if (s.kind != READ || h->state[s.tx] != COMMITTED)
             continue;
         add_edge(g, s.source, s.tx);
-        add_edge(g, s.tx, following[s.source][s.object]);
+        add_edge(g, s.tx, v->following[s.source][s.object]);
     }
     graph_close(g);
 }

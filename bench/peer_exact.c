@@ -75,8 +75,10 @@ uint64_t exact_answer(const struct history *h, uint16_t *witness)
 {
     static const uint8_t store[OBJECTS];
     struct search s;
+    uint16_t order[SEARCHED];
 
-    if (prepare(h, &s) && place(&s, (1u << s.count) - 1, store, witness))
-        return answer(KRUPOVESH_ORDER, s.count, 0);
-    return answer(KRUPOVESH_NONE, 0, 0);
+    if (!prepare(h, &s) || !place(&s, (1u << s.count) - 1, store, order))
+        return answer(KRUPOVESH_NONE, 0, 0);
+    lay_order(order, s.count, witness);
+    return answer(KRUPOVESH_ORDER, s.count, 0);
 }

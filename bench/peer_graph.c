@@ -75,7 +75,7 @@ static set rising(const struct graph *g, set left)
 }
 
 /* Writes the first of the shortest cycles, which lies in `left`, and answers its length. */
-static unsigned first_cycle(const struct graph *g, set left, uint16_t *witness)
+static unsigned first_cycle(const struct graph *g, set left, uint16_t *members)
 {
     set level[TRANSACTIONS], within = {{0, 0}}, rises = rising(g, left);
     unsigned best = TRANSACTIONS + 1, start = 0;
@@ -95,27 +95,26 @@ static unsigned first_cycle(const struct graph *g, set left, uint16_t *witness)
     shortest_through(g, start, within, best, level);
     unsigned at = start;
     for (unsigned i = 0; i < best; i++) {
-        witness[i] = (uint16_t)at;
+        members[i] = (uint16_t)at;
         set onward = set_and(g->after[at], level[best - 1 - i]);
         at = set_lowest(&onward);
     }
     return best;
 }
 
-uint64_t graph_answer(const struct graph *g, uint16_t *witness)
+uint64_t graph_answer(const struct graph *g, uint16_t *members)
 {
-    set left = place_rest(g, (set){{0, 0}}, witness);
+    set left = place_rest(g, (set){{0, 0}}, members);
     if (set_is_empty(&left))
         return answer(KRUPOVESH_ORDER, set_count(&g->members), 0);
-    memset(witness, 0, KRUPOVESH_WITNESS * sizeof *witness);
-    return answer(KRUPOVESH_CYCLE, first_cycle(g, left, witness), 0);
+    return answer(KRUPOVESH_CYCLE, first_cycle(g, left, members), 0);
 }
 
-/* Whether the 128 entries are all members, each once and after those it has to follow, and then zeros. */
+/* Whether the 128 numbers are all members, each once and after those it has to follow, and then zeros. */
 bool graph_keeps(const struct graph *g, const uint16_t *order)
 {
     set left = g->members;
-    for (unsigned i = 0; i < KRUPOVESH_WITNESS; i++) {
+    for (unsigned i = 0; i < KRUPOVESH_HANDED; i++) {
         unsigned t = order[i];
         if (set_is_empty(&left)) {
             if (t != 0)

@@ -121,6 +121,11 @@ static inline struct step step_at(const struct history *h, unsigned k)
     return (struct step){p[0], p[1], p[2], p[3]};
 }
 
+/* following[t][x]: the writer of the version of x after that of t; 0 if there is none. */
+struct versions {
+    uint8_t following[TRANSACTIONS + 1][OBJECTS];
+};
+
 struct graph {
     set members;
     set before[TRANSACTIONS + 1]; /* before[t]: where edges to t come from */
@@ -130,20 +135,26 @@ struct graph {
 /* peer_check.c: 0, or the refusal with number 1 to 11. */
 uint64_t peer_check(struct history *h, const uint16_t *log, size_t length);
 
-/* peer_graph.c. graph_close fills `after` in from `before`. */
+/* peer_graph.c. graph_close fills `after` in from `before`. Orders and cycles are plain numbers here, one for each member. */
 void graph_close(struct graph *g);
-uint64_t graph_answer(const struct graph *g, uint16_t *witness);
+uint64_t graph_answer(const struct graph *g, uint16_t *members);
 bool graph_keeps(const struct graph *g, const uint16_t *order);
 unsigned graph_next(const struct graph *g, const uint16_t *order, uint16_t *next);
 
-/* peer_edges.c: the two graphs of a log. */
+/* peer_edges.c: the two graphs of a log, and the versions that the second is made of. */
 void conflict_graph(const struct history *h, struct graph *g);
-void version_graph(const struct history *h, struct graph *g);
+void version_graph(const struct history *h, struct graph *g, struct versions *v);
+
+/* peer_reasons.c: an order or a cycle as entries of a witness. Nothing behind them is written. */
+void lay_order(const uint16_t *members, unsigned count, uint16_t *witness);
+void lay_conflict_cycle(const struct history *h, const uint16_t *members, unsigned count, uint16_t *witness);
+void lay_version_cycle(const struct history *h, const struct versions *v, const uint16_t *members, unsigned count,
+                       uint16_t *witness);
 
 /* peer_exact.c. */
 uint64_t exact_answer(const struct history *h, uint16_t *witness);
 
-/* peer_verdicts.c. The fault is 0 where the log is clean. A witness has to be cleared before. */
+/* peer_verdicts.c. The fault is 0 where the log is clean. */
 uint64_t fault_of(const struct history *h);
 uint64_t snapshot_answer(const struct history *h);
 uint64_t conflict_answer(const struct history *h, uint16_t *witness);

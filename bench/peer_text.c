@@ -88,7 +88,7 @@ uint64_t peer_read(const uint8_t *text, size_t text_length, uint16_t *steps, siz
     return result;
 }
 
-/* Where the report is written. Its longest has less than half of the room. */
+/* Where the report is written. Its longest has less than two thirds of the room. */
 struct pen {
     uint8_t *out;
     size_t used;
@@ -113,11 +113,22 @@ static void put_number(struct pen *p, const char *words, unsigned number)
         p->out[p->used++] = (uint8_t)digits[--n];
 }
 
-static void put_members(struct pen *p, const char *word, unsigned length, const uint16_t *witness)
+static void put_order(struct pen *p, unsigned length, const uint16_t *witness)
 {
-    put(p, word);
+    put(p, "order");
     for (unsigned i = 0; i < length; i++)
-        put_number(p, " ", witness[i]);
+        put_number(p, " ", witness[KRUPOVESH_ENTRY * i]);
+}
+
+static void put_cycle(struct pen *p, unsigned length, const uint16_t *witness)
+{
+    static const char *const kinds[] = {[KRUPOVESH_WW] = " ww:", [KRUPOVESH_WR] = " wr:", [KRUPOVESH_RW] = " rw:"};
+    put(p, "cycle");
+    for (unsigned i = 0; i < length; i++) {
+        const uint16_t *entry = witness + KRUPOVESH_ENTRY * i;
+        put_number(p, " ", entry[0]);
+        put_number(p, kinds[entry[1]], entry[2]);
+    }
 }
 
 /* One line: its key, and the answer in words. Faults are named in the clean line only. */
@@ -126,8 +137,8 @@ static void put_line(struct pen *p, const char *key, uint64_t result, const uint
     unsigned first = KRUPOVESH_FIRST(result);
     put(p, key);
     switch (KRUPOVESH_KIND(result)) {
-    case KRUPOVESH_ORDER: put_members(p, "order", first, witness); break;
-    case KRUPOVESH_CYCLE: put_members(p, "cycle", first, witness); break;
+    case KRUPOVESH_ORDER: put_order(p, first, witness); break;
+    case KRUPOVESH_CYCLE: put_cycle(p, first, witness); break;
     case KRUPOVESH_NONE: put(p, "none"); break;
     case KRUPOVESH_ABORTED: put_number(p, witness == NULL ? "aborted at " : "unclean at ", first); break;
     case KRUPOVESH_UNFINAL: put_number(p, witness == NULL ? "unfinal at " : "unclean at ", first); break;

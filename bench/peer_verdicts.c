@@ -72,15 +72,30 @@ uint64_t snapshot_answer(const struct history *h)
 uint64_t conflict_answer(const struct history *h, uint16_t *witness)
 {
     struct graph g;
+    uint16_t members[TRANSACTIONS];
+
     conflict_graph(h, &g);
-    return graph_answer(&g, witness);
+    uint64_t result = graph_answer(&g, members);
+    if (KRUPOVESH_KIND(result) == KRUPOVESH_CYCLE)
+        lay_conflict_cycle(h, members, KRUPOVESH_FIRST(result), witness);
+    else
+        lay_order(members, KRUPOVESH_FIRST(result), witness);
+    return result;
 }
 
 uint64_t version_answer(const struct history *h, uint16_t *witness)
 {
     struct graph g;
-    version_graph(h, &g);
-    return graph_answer(&g, witness);
+    struct versions v;
+    uint16_t members[TRANSACTIONS];
+
+    version_graph(h, &g, &v);
+    uint64_t result = graph_answer(&g, members);
+    if (KRUPOVESH_KIND(result) == KRUPOVESH_CYCLE)
+        lay_version_cycle(h, &v, members, KRUPOVESH_FIRST(result), witness);
+    else
+        lay_order(members, KRUPOVESH_FIRST(result), witness);
+    return result;
 }
 
 uint64_t peer_clean(const uint16_t *log, size_t log_length, uint8_t *work, size_t work_length)
@@ -159,6 +174,8 @@ uint64_t peer_next(const uint16_t *log, size_t log_length, const uint16_t *order
 {
     struct history h;
     struct graph g;
+    struct versions v;
+    uint16_t next[TRANSACTIONS];
     if (order_length != KRUPOVESH_HANDED || work_length != KRUPOVESH_WORK || witness_length != KRUPOVESH_WITNESS)
         return refused(12, 0);
     uint64_t refusal = peer_check(&h, log, log_length);
@@ -166,11 +183,12 @@ uint64_t peer_next(const uint16_t *log, size_t log_length, const uint16_t *order
         return refusal;
     if (fault_of(&h) != 0)
         return refused(14, 0);
-    version_graph(&h, &g);
+    version_graph(&h, &g, &v);
     if (!graph_keeps(&g, order))
         return refused(14, 0);
     memset(work, 0, work_length);
     memset(witness, 0, witness_length * sizeof *witness);
-    unsigned length = graph_next(&g, order, witness);
+    unsigned length = graph_next(&g, order, next);
+    lay_order(next, length, witness);
     return length != 0 ? answer(KRUPOVESH_ORDER, length, 0) : answer(KRUPOVESH_NONE, 0, 0);
 }

@@ -74,14 +74,50 @@ static void read_steps(struct expected *e)
             e->committed[e->committed_count++] = (uint16_t)t;
 }
 
-/* The members of an order or a cycle; how many. */
-static unsigned members(const char *list, uint16_t *witness)
+/* Takes a number from the front of a list. False at its end. */
+static int take_number(const char **list, uint16_t *number)
+{
+    char *end;
+    unsigned long t = strtoul(*list, &end, 10);
+    int is_there = end != *list;
+    if (is_there)
+        *number = (uint16_t)t;
+    *list = end;
+    return is_there;
+}
+
+/* The members of an order as entries of a witness; how many. */
+static unsigned order_entries(const char *list, uint16_t *witness)
 {
     unsigned count = 0;
-    char *end;
-    for (unsigned long t = strtoul(list, &end, 10); end != list; t = strtoul(list, &end, 10)) {
-        witness[count++] = (uint16_t)t;
-        list = end;
+    while (take_number(&list, witness + KRUPOVESH_ENTRY * count))
+        count++;
+    return count;
+}
+
+/* The kind that a word at the front of a list means, which is taken; 0 where it is none. */
+static uint16_t take_kind(const char **list)
+{
+    static const char *const words[] = {[KRUPOVESH_WW] = " ww:", [KRUPOVESH_WR] = " wr:", [KRUPOVESH_RW] = " rw:"};
+    for (uint16_t kind = KRUPOVESH_WW; kind <= KRUPOVESH_RW; kind++) {
+        const char *rest = value_of(*list, words[kind]);
+        if (rest != NULL) {
+            *list = rest;
+            return kind;
+        }
+    }
+    return 0;
+}
+
+/* The members of a cycle with their reasons as entries of a witness; how many. */
+static unsigned cycle_entries(const struct expected *e, const char *list, uint16_t *witness)
+{
+    unsigned count = 0;
+    for (uint16_t *entry = witness; take_number(&list, entry); entry += KRUPOVESH_ENTRY) {
+        entry[1] = take_kind(&list);
+        if (entry[1] == 0 || !take_number(&list, entry + 2))
+            stop("the report has a member without a reason", e->name);
+        count++;
     }
     return count;
 }
@@ -111,9 +147,9 @@ static uint64_t answer_of(const struct expected *e, const char *value, uint64_t 
     if (sscanf(value, "unclean at %u", &k) == 1 && KRUPOVESH_FIRST(fault) == k)
         return fault;
     if (value_of(value, "order") != NULL)
-        return answer(KRUPOVESH_ORDER, members(value + 5, witness), 0);
+        return answer(KRUPOVESH_ORDER, order_entries(value + 5, witness), 0);
     if (value_of(value, "cycle") != NULL)
-        return answer(KRUPOVESH_CYCLE, members(value + 5, witness), 0);
+        return answer(KRUPOVESH_CYCLE, cycle_entries(e, value + 5, witness), 0);
     stop("the report has an unknown line", e->name);
     return 0;
 }
@@ -147,7 +183,7 @@ static void note_order(struct expected *e, const char *line)
         return;
     if (e->order_count == MOST_ORDERS)
         stop("has more orders than this test keeps", e->name);
-    members(line + 5, e->orders[e->order_count++]);
+    order_entries(line + 5, e->orders[e->order_count++]);
 }
 
 /* One line of what is written, or the refusal. */

@@ -20,20 +20,20 @@ struct expected {
     uint16_t committed[128]; /* the lowest first */
     size_t committed_count;
 
-    char report[2048];
+    char report[KRUPOVESH_REPORT];
     size_t report_length;
     uint64_t refusal; /* what turns the text or its log away */
     int is_refused, is_read; /* whether something does; whether the text is in form */
 
     /* In the order of the functions: clean, snapshot, conflict, version, exact. */
     uint64_t answers[5];
-    uint16_t witness[5][128];
+    uint16_t witness[5][KRUPOVESH_WITNESS];
 
     uint64_t write_answer; /* what the writer answers to the steps, and what it writes */
     char written[KRUPOVESH_TEXT + 1];
     size_t written_length;
 
-    uint16_t orders[MOST_ORDERS][128];
+    uint16_t orders[MOST_ORDERS][KRUPOVESH_WITNESS]; /* as a witness shows them */
     size_t order_count;
     int is_whole_list; /* whether none comes after the last of them */
 };

@@ -45,13 +45,15 @@ static void lend_input(unsigned which)
     }
 }
 
-enum { INPUTS = 5, WRONG_LENGTHS = 5 };
+enum { INPUTS = 5, WRONG_LENGTHS = 7 };
 
-/* The last is right for another buffer: the writer's for the report's, and the report's for all others. */
+/* The last two are right for other buffers: the order's for the witness, and the witness's for all others; the writer's for the
+ * report and for the steps, which are as many, and the report's for all others. */
 static size_t wrong_length(size_t right, unsigned which)
 {
-    const size_t other = right == KRUPOVESH_REPORT ? KRUPOVESH_TEXT : KRUPOVESH_REPORT;
-    const size_t wrong[WRONG_LENGTHS] = {0, right - 1, right + 1, 2 * right, other};
+    const size_t small = right == KRUPOVESH_WITNESS ? KRUPOVESH_HANDED : KRUPOVESH_WITNESS;
+    const size_t large = right == KRUPOVESH_REPORT ? KRUPOVESH_TEXT : KRUPOVESH_REPORT;
+    const size_t wrong[WRONG_LENGTHS] = {0, right - 1, right + 1, right / 2, 2 * right, small, large};
     return wrong[which];
 }
 
@@ -117,16 +119,25 @@ static void try_verdicts(void)
     }
 }
 
+/* The members of an order that a witness shows, as "next" takes them: the first number of each entry. */
+static void read_members(const uint16_t *witness, uint16_t *order)
+{
+    for (unsigned i = 0; i < KRUPOVESH_HANDED; i++)
+        order[i] = witness[KRUPOVESH_ENTRY * i];
+}
+
 /* From each order of the list to the one after it. */
 static void try_listing(void)
 {
+    uint16_t order[KRUPOVESH_HANDED];
     for (size_t i = 0; i < e.order_count; i++) {
         int is_last = i + 1 == e.order_count;
         if (is_last && !e.is_whole_list)
             return;
         lend_for(NEXT);
         lend(LOG, 4 * e.step_count, e.steps);
-        lend(ORDER, KRUPOVESH_HANDED, e.orders[i]);
+        read_members(e.orders[i], order);
+        lend(ORDER, KRUPOVESH_HANDED, order);
         make_due(WORK, NULL, 0);
         if (is_last) {
             make_due(WITNESS, NULL, 0);
@@ -140,10 +151,22 @@ static void try_listing(void)
 
 static int is_listed(const uint16_t *order)
 {
-    for (size_t i = 0; i < e.order_count; i++)
-        if (memcmp(e.orders[i], order, sizeof e.orders[i]) == 0)
+    uint16_t listed[KRUPOVESH_HANDED];
+    for (size_t i = 0; i < e.order_count; i++) {
+        read_members(e.orders[i], listed);
+        if (memcmp(listed, order, sizeof listed) == 0)
             return 1;
+    }
     return 0;
+}
+
+/* The first order of the list; where there is none, the committed, the lowest first. */
+static void read_first(uint16_t *order)
+{
+    if (e.order_count != 0)
+        read_members(e.orders[0], order);
+    else
+        memcpy(order, e.committed, sizeof e.committed);
 }
 
 /* Something that is not on the list. */
@@ -158,15 +181,18 @@ static void try_stranger(const uint16_t *order)
         try_refusal(NEXT, 14, 0, e.name);
 }
 
-/* What is near to an order, and never one: an entry too few, too many, twice, too large, not committed; and mere dirt. */
+/* What is near to an order, and never one: a member too few, too many, twice, too large, not committed; an order as a witness shows
+ * it; and mere dirt. */
 static void try_strangers(void)
 {
-    uint16_t order[128];
+    uint16_t order[KRUPOVESH_HANDED], first[KRUPOVESH_HANDED];
     size_t count = e.committed_count;
-    const uint16_t *first = e.order_count != 0 ? e.orders[0] : e.committed;
 
+    read_first(first);
     try_stranger(NULL);
-    for (unsigned i = 0; i < 128; i++) {
+    if (e.order_count != 0 && count > 1)
+        try_stranger(e.orders[0]);
+    for (unsigned i = 0; i < KRUPOVESH_HANDED; i++) {
         if (i > 2 && i + 1 != count && i != count && i != 127)
             continue;
         memcpy(order, first, sizeof order);
@@ -182,9 +208,9 @@ static void try_strangers(void)
 /* Two neighbours changed about, where the whole list is known and this is not on it. */
 static void try_swaps(void)
 {
-    uint16_t order[128];
+    uint16_t order[KRUPOVESH_HANDED];
     for (size_t i = 0; i + 1 < e.committed_count && i < 8; i++) {
-        memcpy(order, e.order_count != 0 ? e.orders[0] : e.committed, sizeof order);
+        read_first(order);
         uint16_t t = order[i];
         order[i] = order[i + 1];
         order[i + 1] = t;

@@ -1,6 +1,6 @@
 /* The C face of Krupovesh: the verdicts over a log's numbers, the text reader, the writer and the report.
  *
- * Each buffer is a pointer, which is never null, and a length in entries. Any length and any contents may be handed in.
+ * Each buffer is a pointer, which is never null, and a length in numbers or bytes. Any length and any contents may be handed in.
  * No two buffers of a call may overlap.
  * A log has four numbers for each step: kind, transaction, object, source.
  *
@@ -25,8 +25,11 @@
  *
  * Writer 0 is the store before the log began.
  *
- * After a refusal every lent entry is as it was. After any other answer the work area is all 0, and a witness buffer holds the order
- * or the cycle, if there is one, and then zeros. */
+ * After a refusal every lent number and byte is as it was. After any other answer the work area is all 0, and a witness buffer holds
+ * the order or the cycle, if there is one, and then zeros.
+ *
+ * An entry of the witness is three numbers: a transaction, a kind and an object. On a cycle these are the kind and the object of the
+ * dependency that leads to the following member, and from the last one back to the first. In an order both are 0. */
 #ifndef KRUPOVESH_H
 #define KRUPOVESH_H
 
@@ -37,13 +40,21 @@
 extern "C" {
 #endif
 
-/* How many entries each lent buffer has to have. */
+/* How many numbers an entry of the witness has. */
+#define KRUPOVESH_ENTRY 3
+
+/* How many numbers or bytes each lent buffer has to have. The witness has 128 entries. */
 #define KRUPOVESH_WORK 16384
-#define KRUPOVESH_WITNESS 128
+#define KRUPOVESH_WITNESS 384
 #define KRUPOVESH_HANDED 128
 #define KRUPOVESH_STEPS 4096
-#define KRUPOVESH_REPORT 2048
+#define KRUPOVESH_REPORT 4096
 #define KRUPOVESH_TEXT 33803
+
+/* The kinds of dependency: a write after a write, a read after a write, a write after a read. */
+#define KRUPOVESH_WW 1
+#define KRUPOVESH_WR 2
+#define KRUPOVESH_RW 3
 
 /* The kinds of answer. */
 #define KRUPOVESH_REFUSED 0
@@ -82,7 +93,8 @@ uint64_t krupovesh_version(const uint16_t *log, size_t log_length, uint8_t *work
 uint64_t krupovesh_exact(const uint16_t *log, size_t log_length, uint8_t *work, size_t work_length,
                          uint16_t *witness, size_t witness_length);
 
-/* After the order handed in, which has KRUPOVESH_HANDED entries: its members and then zeros. Refused, order, none. */
+/* After the order handed in, which has KRUPOVESH_HANDED numbers: its members and then zeros, with no kinds and objects between them.
+ * Refused, order, none. */
 uint64_t krupovesh_next(const uint16_t *log, size_t log_length, const uint16_t *order, size_t order_length,
                         uint8_t *work, size_t work_length, uint16_t *witness, size_t witness_length);
 

@@ -4,6 +4,7 @@
 use std::collections::BTreeMap;
 
 use crate::make::{Sort, SORTS};
+use crate::reasons::{Dependency, KINDS};
 use crate::report::report;
 use crate::write::LONGEST;
 
@@ -69,7 +70,25 @@ fn verdicts(report: &str) -> Vec<String> {
             met.push(pair.to_string());
         }
     }
+    [met, reasons(report)].concat()
+}
+
+/// For each verdict with a cycle the kinds among its reasons.
+fn reasons(report: &str) -> Vec<String> {
+    let mut met = Vec::new();
+    for (verdict, links) in report.lines().filter_map(cycle_of) {
+        for kind in KINDS.map(Dependency::word) {
+            if links.contains(&format!(" {kind}:")) {
+                met.push(format!("{verdict}=cycle by {kind}"));
+            }
+        }
+    }
     met
+}
+
+/// The verdict of a line with a cycle, and its members with their reasons.
+fn cycle_of(line: &str) -> Option<(&str, &str)> {
+    line.split_once("=cycle ")
 }
 
 /// Outcomes that come together; small logs are meant to reach the first eight.
@@ -88,6 +107,10 @@ const PAIRS: [&str; 12] = [
     "clean=unfinal and snapshot=write",
 ];
 
+/// The members 1 to 128, a reason for each with an object of two digits, and a
+/// blank between any two of them.
+const WIDEST: usize = 9 + 2 * 90 + 3 * 29 + 128 * "ww:63".len() + 255;
+
 /// The limits that a text and its report show.
 fn extremes(text: &[u8], report: &str) -> Vec<String> {
     let mut met = Vec::new();
@@ -98,9 +121,12 @@ fn extremes(text: &[u8], report: &str) -> Vec<String> {
         if line == "steps=1024" || line == "committed=128" || line == "committed=8" {
             met.push(line.to_string());
         }
-        if let Some((verdict, members)) = line.split_once("=cycle ") {
-            let size = size_words(members.split(' ').count());
+        if let Some((verdict, links)) = cycle_of(line) {
+            let size = size_words(links.split(' ').count() / 2);
             met.push(format!("{verdict}=cycle of {size}"));
+            if links.len() == WIDEST {
+                met.push(format!("{verdict}=cycle at its widest"));
+            }
         }
     }
     met
@@ -151,7 +177,7 @@ fn wanted(sort: Sort) -> Vec<&'static str> {
     }
 }
 
-const VERDICTS: [&str; 18] = [
+const VERDICTS: [&str; 24] = [
     "clean=yes",
     "clean=own",
     "clean=aborted",
@@ -163,8 +189,14 @@ const VERDICTS: [&str; 18] = [
     "snapshot=write",
     "conflict=order",
     "conflict=cycle",
+    "conflict=cycle by ww",
+    "conflict=cycle by wr",
+    "conflict=cycle by rw",
     "version=order",
     "version=cycle",
+    "version=cycle by ww",
+    "version=cycle by wr",
+    "version=cycle by rw",
     "version=unclean",
     "exact=order",
     "exact=none",
@@ -194,7 +226,7 @@ const TEXTS: [&str; 9] = [
     "refused=16 behind",
 ];
 
-const LIMITS: [&str; 30] = [
+const LIMITS: [&str; 31] = [
     "longest text",
     "steps=1024",
     "committed=128",
@@ -219,6 +251,7 @@ const LIMITS: [&str; 30] = [
     "version=cycle of 10 to 63",
     "version=cycle of 64 to 127",
     "version=cycle of 128",
+    "version=cycle at its widest",
     "exact=over",
     "version=unclean and exact=over",
     "version=cycle and exact=over",

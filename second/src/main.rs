@@ -7,6 +7,7 @@ mod histogram;
 mod log;
 mod make;
 mod permutations;
+mod reasons;
 mod replay;
 mod report;
 mod rng;

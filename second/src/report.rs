@@ -3,6 +3,7 @@
 use std::io::{self, Write};
 
 use crate::log::{check, Log, Refusal};
+use crate::reasons::Link;
 use crate::replay::{exact, Replay};
 use crate::text::read_run;
 use crate::verdicts::{clean, conflict, snapshot, version, Answer, Fault, Snapshot, Wanted};
@@ -72,10 +73,19 @@ fn wanted_words(wanted: Wanted) -> String {
 fn answer_words(answer: &Answer) -> String {
     match answer {
         Answer::Order(order) => words("order", order),
-        Answer::Cycle(cycle) => words("cycle", cycle),
+        Answer::Cycle(cycle) => cycle_words(cycle),
         Answer::None => "none".to_string(),
         Answer::Unclean(fault) => format!("unclean at {}", fault.step()),
     }
+}
+
+/// Each member, and its reason as `KIND:OBJECT`.
+fn cycle_words(cycle: &[Link]) -> String {
+    let mut line = "cycle".to_string();
+    for (tx, reason) in cycle {
+        line += &format!(" {tx} {}:{}", reason.kind.word(), reason.obj);
+    }
+    line
 }
 
 /// The word and then the numbers, one blank between.

@@ -2,6 +2,7 @@
 
 use crate::graph::Graph;
 use crate::log::{Kind, Log, Step, OBJECTS};
+use crate::reasons::{conflict_fits, version_fits, with_reasons, Fits, Link};
 
 /// What is wrong with the lowest faulty read, and its step.
 #[derive(Clone, Copy, Debug, PartialEq, Eq)]
@@ -23,7 +24,7 @@ impl Fault {
 #[derive(Clone, Debug, PartialEq, Eq)]
 pub enum Answer {
     Order(Vec<usize>),
-    Cycle(Vec<usize>),
+    Cycle(Vec<Link>),
     None,
     Unclean(Fault),
 }
@@ -164,26 +165,29 @@ pub fn version_edges(log: &Log) -> Graph {
 }
 
 /// The writer of the version after this one.
-fn version_after(versions: &[usize], version: usize) -> Option<usize> {
+pub fn version_after(versions: &[usize], version: usize) -> Option<usize> {
     let place = versions.iter().position(|&v| v == version)?;
     versions.get(place + 1).copied()
 }
 
 pub fn conflict(log: &Log) -> Answer {
-    order_or_cycle(&conflict_edges(log))
+    let fits = |from, to, reason| conflict_fits(log, from, to, reason);
+    order_or_cycle(&conflict_edges(log), &fits)
 }
 
 pub fn version(log: &Log) -> Answer {
+    let fits = |from, to, reason| version_fits(log, from, to, reason);
     match clean(log) {
         Some(fault) => Answer::Unclean(fault),
-        None => order_or_cycle(&version_edges(log)),
+        None => order_or_cycle(&version_edges(log), &fits),
     }
 }
 
-/// Without a cycle the first order, with one the first shortest cycle.
-fn order_or_cycle(graph: &Graph) -> Answer {
+/// Without a cycle the first order, with one the first shortest cycle and its
+/// reasons.
+fn order_or_cycle(graph: &Graph, fits: &Fits) -> Answer {
     match graph.first_shortest_cycle() {
-        Some(cycle) => Answer::Cycle(cycle),
+        Some(cycle) => Answer::Cycle(with_reasons(&cycle, fits)),
         None => Answer::Order(
             graph
                 .first_order()

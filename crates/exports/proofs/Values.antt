@@ -100,7 +100,7 @@ snapshot-says (snapshot-is.Write k t) (write-upto h i) = short (omega arith) (om
 outcome-short : (a : Outcome) → OutcomeUpto most-steps transactions a → Short (witness-numbers (said-judged a))
 unfolding witness-numbers said-judged said
 outcome-short (order w) (order-upto h) = short (omega arith) (omega (arith, h .few)) (omega arith)
-outcome-short (cycle c) (cycle-upto h) = short (omega arith) (omega (arith, h .few)) (omega arith)
+outcome-short (cycle c) (cycle-upto h r) = short (omega arith) (omega (arith, h)) (omega arith)
 outcome-short none none-fine = short (omega arith) (omega arith) (omega arith)
 outcome-short (unclean f) (unclean-upto h) = fault-short f h
 

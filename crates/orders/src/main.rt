@@ -17,7 +17,10 @@ use verdict::next;
 use verdict::version;
 ghost use mathlib.Core.Path.{_≡_};
 ghost use mathlib.Core.Bool.{true};
-ghost use Prim.Native.Nat.{_<_};
+ghost use Prim.Native.Nat.{_*_, _≤_, _<_};
+ghost use lib.ListN.{length};
+ghost use Rattle.verdict.specs.Limits.{order-entries};
+ghost use Rattle.verdict.specs.Witness.{read-off, handed};
 ghost use Rattle.verdict.specs.Next.{up-to-zero};
 ghost use Rattle.verdict.proofs.Listing.{to-come};
 
@@ -27,19 +30,37 @@ struct Brought {
     more: bool,
 }
 
+// The order in the first n entries of a witness, as "next" takes it.
+fn read_order(witness: &[u16], n: usize) -> [u16; Transaction::COUNT]
+    requires { ⌜ (n ≤ order-entries) × (3 * n ≤ length (now witness)) ⌝ }
+    ensures { λ r. ⌜ r ≡ handed (read-off n (now (witness .entry))) ⌝ }
+{
+    let mut order = [0u16; Transaction::COUNT];
+    let mut i: usize = 0;
+    while i < n {
+        order[i] = witness[3 * i];
+        i += 1;
+    }
+    order
+}
+
 // Brings the order after the one given, and prints it.
 fn bring(log: &[u16], given: [u16; Transaction::COUNT], work: &mut [u8]) -> Brought
     ensures { λ r. ⌜ (r .more ≡ true → to-come (now (log .entry)) (up-to-zero (r .order)) < to-come (now (log .entry)) (up-to-zero given)) ⌝ }
 {
-    let mut order = [0u16; Transaction::COUNT];
-    let answer = next(log, &given, work, &mut order);
+    let mut witness = [0u16; Transaction::WITNESS];
+    let answer = next(log, &given, work, &mut witness);
     if let WitnessAnswer::Judged(judged) = answer {
         if let Answer::Order(n) = judged {
+            let order = read_order(&witness, n);
             print_numbers(b"order", &order[..n]);
             return Brought { order, more: true };
         }
     }
-    Brought { order, more: false }
+    Brought {
+        order: given,
+        more: false,
+    }
 }
 
 // Prints all orders after the first.
@@ -57,14 +78,15 @@ fn print_later(log: &[u16], first: [u16; Transaction::COUNT], work: &mut [u8]) {
 // Prints every order that explains a log, and last `none`.
 fn print_listing(log: &[u16]) {
     let mut work = [0u8; Log::WORK];
-    let mut witness = [0u16; Transaction::COUNT];
+    let mut witness = [0u16; Transaction::WITNESS];
     let answer = version(log, &mut work, &mut witness);
     match answer {
         WitnessAnswer::Refused(number, place) => print_refused(number, place),
         WitnessAnswer::Judged(judged) => {
             if let Answer::Order(n) = judged {
-                print_numbers(b"order", &witness[..n]);
-                print_later(log, witness, &mut work);
+                let order = read_order(&witness, n);
+                print_numbers(b"order", &order[..n]);
+                print_later(log, order, &mut work);
             }
             io::write_all(STDOUT_FILENO, b"none\n");
         }

@@ -6,6 +6,7 @@ pub mod Words
 pub mod Forms
 pub mod Runs
 pub mod Compare
+pub mod ReasonWords
 pub mod Puts
 pub mod Digits
 pub mod Clears

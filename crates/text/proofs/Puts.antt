@@ -9,7 +9,8 @@ use lib.Seq.{length-take-le, take-all, take-suc, take-at, drop-at, drop-drop, dr
 use Rattle.text.specs.Decimal.{digit, decimal}
 use Rattle.text.specs.Line.{item}
 use Rattle.text.specs.Inner.Put.{put-at, Fits, Puts}
-use Rattle.text.specs.ReportLine.{numbers}
+use Rattle.verdict.specs.Reason.{Entry}
+use Rattle.text.specs.ReportLine.{spelled, spelled-all}
 use Rattle.text.proofs.Spelling.{decimal-digit, decimal-more}
 
 pub put-one : (l : List ℕ) (at b : ℕ) → at < length l → set l at b ≡ put-at at (b ∷ []) l
@@ -147,59 +148,40 @@ module _ (l word : List ℕ) (at : ℕ) (fits : Fits word at l) where
   pub puts-all : (l′ : List ℕ) (i : ℕ) → length word ≤ i → i ≤ length word → l′ ≡ put-at at (take i word) l → Puts word at l (at + i) l′
   puts-all l′ i h k e = (omega arith, e ∙ ap (λ (u : List ℕ). put-at at u l) (take-all i word h))
 
--- numbers, a blank before each
-numbers-append : (v w : List ℕ) → numbers (v ++ w) ≡ numbers v ++ numbers w
-unfolding numbers
-numbers-append [] w = refl
-numbers-append (n ∷ v) w = rw (numbers-append v w) (simp append-assoc)
+-- MEMBERS, ONE AFTER ANOTHER
+spelled-append : (v w : List Entry) → spelled-all (v ++ w) ≡ spelled-all v ++ spelled-all w
+unfolding spelled-all
+spelled-append [] w = refl
+spelled-append (e ∷ v) w = rw (spelled-append v w) (sym (append-assoc (spelled e) (spelled-all v) (spelled-all w)))
 
-module _ (list l : List ℕ) (at : ℕ) (fits : Fits (numbers list) at l) (i : ℕ) (h : i < length list) where
-  before-it : List ℕ
-  before-it = numbers (take i list)
-
-  its-digits : List ℕ
-  its-digits = decimal (getD list i 0)
-
-  -- one number more
-  one-more : before-it ++ 32 ∷ [] ++ its-digits ≡ numbers (take (i + 1) list)
-  unfolding numbers before-it its-digits
+module _ (w : List Entry) (l : List ℕ) (at : ℕ) (fits : Fits (spelled-all w) at l) (i : ℕ) (h : i < length w) (e : Entry) (is : getD w i e ≡ e) where
+  -- one member more
+  one-more : spelled-all (take i w) ++ spelled e ≡ spelled-all (take (i + 1) w)
+  unfolding spelled-all
   one-more =
-      sym (ap (λ (m : ℕ). numbers (take m list)) (add-one i)
-      ∙ ap numbers (take-suc list i 0 h)
-      ∙ numbers-append (take i list) (getD list i 0 ∷ [])
-      ∙ simp (append-nil, append-assoc))
+      sym (ap (λ (m : ℕ). spelled-all (take m w)) (add-one i)
+      ∙ ap spelled-all (take-suc w i e h)
+      ∙ spelled-append (take i w) (getD w i e ∷ [])
+      ∙ ap (λ (u : Entry). spelled-all (take i w) ++ (spelled u ++ [])) is
+      ∙ ap (λ (u : List ℕ). spelled-all (take i w) ++ u) (append-nil (spelled e)))
 
   -- .. has room where all have
-  more-fits : Fits (before-it ++ 32 ∷ [] ++ its-digits) at l
+  more-fits : Fits (spelled-all (take i w) ++ spelled e) at l
   more-fits =
-      let e : length (numbers list) ≡ length (numbers (take (i + 1) list)) + length (numbers (drop (i + 1) list)) =
-      ap (λ (u : List ℕ). length (numbers u)) (sym (take-append-drop (i + 1) list))
-      ∙ ap length (numbers-append (take (i + 1) list) (drop (i + 1) list))
-      ∙ length-append (numbers (take (i + 1) list)) (numbers (drop (i + 1) list))
+      let n : length (spelled-all w) ≡ length (spelled-all (take (i + 1) w)) + length (spelled-all (drop (i + 1) w)) =
+      ap (λ (u : List Entry). length (spelled-all u)) (sym (take-append-drop (i + 1) w))
+      ∙ ap length (spelled-append (take (i + 1) w) (drop (i + 1) w))
+      ∙ length-append (spelled-all (take (i + 1) w)) (spelled-all (drop (i + 1) w))
       in
-      let f : length (before-it ++ 32 ∷ [] ++ its-digits) ≡ length (numbers (take (i + 1) list)) = ap length one-more in
+      let f : length (spelled-all (take i w) ++ spelled e) ≡ length (spelled-all (take (i + 1) w)) = ap length one-more in
       omega arith
 
-  blank-fits-too : Fits (before-it ++ 32 ∷ []) at l
-  blank-fits-too = first-fits (before-it ++ 32 ∷ []) its-digits l at more-fits
+  module _ {next : ℕ} {l′ : List ℕ} (put : Puts (spelled-all (take i w)) at l next l′) where
+    pub member-fits : Fits (spelled e) next l′
+    member-fits = then-fits (spelled-all (take i w)) (spelled e) l at more-fits put
 
-  module _ {next : ℕ} {l′ : List ℕ} (put : Puts (numbers (take i list)) at l next l′) where
-    pub blank-fits : Fits (32 ∷ []) next l′
-    unfolding before-it
-    blank-fits = then-fits before-it (32 ∷ []) l at blank-fits-too put
-
-    module _ {next′ : ℕ} {l″ : List ℕ} (blank-put : Puts (32 ∷ []) next l′ next′ l″) where
-      both : Puts (before-it ++ 32 ∷ []) at l next′ l″
-      unfolding before-it
-      both = both-put before-it (32 ∷ []) l at blank-fits-too put blank-put
-
-      pub number-fits : Fits (decimal (getD list i 0)) next′ l″
-      unfolding its-digits
-      number-fits = then-fits (before-it ++ 32 ∷ []) its-digits l at more-fits both
-
-      pub number-put : {end : ℕ} {l‴ : List ℕ} → Puts (decimal (getD list i 0)) next′ l″ end l‴ → Puts (numbers (take (i + 1) list)) at l end l‴
-      unfolding its-digits
-      number-put {end} {l‴} p = subst (λ (w : List ℕ). Puts w at l end l‴) one-more (both-put (before-it ++ 32 ∷ []) its-digits l at more-fits both p)
+    pub member-put : {end : ℕ} {l″ : List ℕ} → Puts (spelled e) next l′ end l″ → Puts (spelled-all (take (i + 1) w)) at l end l″
+    member-put {end} {l″} p = subst (λ (u : List ℕ). Puts u at l end l″) one-more (both-put (spelled-all (take i w)) (spelled e) l at more-fits put p)
 
 -- a number of one digit
 module _ (n : ℕ) (h : n < 10) where

@@ -1,17 +1,20 @@
 -- How long the lines of a report are: every report has room in its buffer. And how large the values of the calls are.
 use mathlib.Core.Path.{_≡_, refl}
-use mathlib.Core.Bool.{true}
+use mathlib.Core.Bool.{Bool, true, false}
 use mathlib.Core.List.{List, [], _∷_, _++_}
 use Prim.Native.Nat.{ℕ, suc, _+_, _*_, _≤_, _<_}
 use native.Mathlib.Omega.{arith}
 use lib.ListN.{length, length-append}
+use Rattle.words.specs.Tests.{_is_, if_then_else_}
 use Rattle.words.specs.Lists.{member}
 use Rattle.words.proofs.Places.{member-head, member-tail}
-use Rattle.verdict.specs.Limits.{transactions, most-steps}
+use Rattle.verdict.specs.Limits.{transactions, objects, most-steps}
 use Rattle.verdict.specs.Log.{steps, committed-count}
 use Rattle.verdict.specs.Refusal.{log-refusal}
 use Rattle.verdict.specs.Clean.{fault-step, cleanness}
 use Rattle.verdict.specs.Snapshot.{snapshot-verdict}
+use Rattle.verdict.specs.Reason.{Entry, without-reasons}
+use Rattle.verdict.specs.Exact.{Exact, exact, exact-none, exact-unclean}
 use Rattle.verdict.specs.Outcome.{Outcome, order, cycle, none, unclean}
 use Rattle.verdict.specs.declared.answers.Checked.the-variants.{Passed, Refused}
 use Rattle.verdict.specs.declared.answers.Fault.{Fault}
@@ -22,18 +25,18 @@ use Rattle.verdict.specs.declared.answers.Writer.{Writer}
 use Rattle.verdict.specs.declared.answers.Writer.the-variants.{Store, Committed, Reader}
 use Rattle.verdict.specs.declared.answers.Snapshot.{Snapshot}
 use Rattle.verdict.specs.declared.answers.Snapshot.the-variants as snapshot-is
-use Rattle.verdict.proofs.Bounds.{Within, within-when, log-within, FaultUpto, own-upto, aborted-upto, unfinal-upto, WriterUpto, store-fine, committed-upto, reader-upto, SnapshotUpto, snapshot-fine, read-upto, write-upto, MembersUpto, OutcomeUpto, order-upto, cycle-upto, none-fine, unclean-upto, few-committed, fault-few, snapshot-few, conflict-few, version-few, exact-few}
+use Rattle.verdict.proofs.Bounds.{Within, within-when, log-within, FaultUpto, own-upto, aborted-upto, unfinal-upto, WriterUpto, store-fine, committed-upto, reader-upto, SnapshotUpto, snapshot-fine, read-upto, write-upto, MembersUpto, EntriesUpto, no-entry, an-entry, OutcomeUpto, order-upto, cycle-upto, none-fine, unclean-upto, few-committed, fault-few, snapshot-few, conflict-few, version-few, exact-few}
 use Rattle.verdict.proofs.WellFormed.{steps-within}
 use Rattle.text.specs.Bytes.{bytes, blank, line-end}
 use Rattle.text.specs.Decimal.{decimal}
 use Rattle.text.specs.Line.{item, header}
 use Rattle.text.specs.Reading.{Says, Reading, no-header, too-many, bad-line, extra}
 use Rattle.text.specs.ReadCall.{ReadRefusal, wrong-buffer, too-long, by-line}
-use Rattle.text.specs.ReportLine.{refused-line, committed-line, clean-line, wants, snapshot-line, numbers, value, outcome-line, over-line}
+use Rattle.text.specs.ReportLine.{refused-line, committed-line, clean-line, wants, snapshot-line, reason, spelled, spelled-all, value, outcome-line, over-line}
 use Rattle.text.specs.Report.{ConflictLine, conflict-line, VersionLine, version-line, ExactLine, exact-over, exact-line, first-lines, LogReport, log-refused, judged, ReportOf, text-too-long, text-refused, text-read}
-use Rattle.text.specs.Inner.Put.{most-long, most-short}
+use Rattle.text.specs.Inner.Put.{most-long, most-exact, most-short}
 use Rattle.text.specs.ReportCall.{report-bytes, report-refusal}
-use Rattle.text.proofs.Digits.{three-digits, four-digits, item-length}
+use Rattle.text.proofs.Digits.{two-digits, three-digits, four-digits, item-length}
 use Rattle.text.proofs.Only.{steps-count}
 
 -- KEYS WITH THEIR VALUES
@@ -71,24 +74,51 @@ wants-length (Committed t s) (committed-upto o h p i) =
     )
 wants-length (Reader t) (reader-upto o h) = omega (arith, number-item (bytes "wants ") line-end t (omega arith))
 
--- NUMBERS, A BLANK BEFORE EACH
-numbers-length : (w : List ℕ) → ((t : ℕ) → member t w ≡ true → t < 1000) → length (numbers w) ≤ 4 * length w
-unfolding numbers
-numbers-length [] f = omega arith
-numbers-length (t ∷ w) f =
-    let a : length (decimal t) ≤ 3 = three-digits t (f t (member-head t w)) in
-    let b : length (numbers w) ≤ 4 * length w = numbers-length w (λ u m. f u (member-tail u t w m)) in
-    let c : length (decimal t ++ numbers w) ≡ length (decimal t) + length (numbers w) = length-append (decimal t) (numbers w) in
-    omega arith
+-- MEMBERS, A BLANK BEFORE EACH AND THE REASON BEHIND IT
+reason-length : (k x : ℕ) → x < 100 → length (reason k x) ≤ 6
+unfolding reason bytes if_then_else_
+reason-length k x h = go (k is 1) (k is 2) (k is 3)
+  where
+    go : (b c d : Bool) → length (if b then bytes " ww:" ++ decimal x else if c then bytes " wr:" ++ decimal x else if d then bytes " rw:" ++ decimal x else []) ≤ 6
+    go true c d = omega (arith, two-digits x h)
+    go false true d = omega (arith, two-digits x h)
+    go false false true = omega (arith, two-digits x h)
+    go false false false = omega arith
+
+spelled-length : (e : Entry) → e .transaction < 1000 → length (spelled e) ≤ 4 + length (reason (e .kind) (e .object))
+unfolding spelled bytes
+spelled-length e h =
+    let r = reason (e .kind) (e .object) in
+    omega (arith, length-append (bytes " " ++ decimal (e .transaction)) r, length-append (bytes " ") (decimal (e .transaction)), three-digits (e .transaction) h)
+
+-- those of an order have none
+none-behind : length (reason 0 0) ≡ 0
+unfolding reason _is_ if_then_else_
+none-behind = refl
+
+order-length : (w : List ℕ) → ((t : ℕ) → member t w ≡ true → t < 1000) → length (spelled-all (without-reasons w)) ≤ 4 * length w
+unfolding spelled-all without-reasons
+order-length [] f = omega arith
+order-length (t ∷ w) f =
+    let e : Entry = record { transaction = t; kind = 0; object = 0 } in
+    let a : length (spelled e) ≤ 4 = omega (arith, spelled-length e (f t (member-head t w)), none-behind) in
+    let b : length (spelled-all (without-reasons w)) ≤ 4 * length w = order-length w (λ u m. f u (member-tail u t w m)) in
+    omega (arith, length-append (spelled e) (spelled-all (without-reasons w)))
+
+cycle-length : (c : List Entry) → EntriesUpto transactions objects c → length (spelled-all c) ≤ 10 * length c
+unfolding spelled-all
+cycle-length [] no-entry = omega arith
+cycle-length (e ∷ c) (an-entry h k r) =
+    omega (arith, length-append (spelled e) (spelled-all c), spelled-length e (omega arith), reason-length (e .kind) (e .object) (omega arith), cycle-length c r)
 
 -- THE LINE OF A VERDICT WITH A WITNESS
 -- what stands behind the key
 abbrev most-value : ℕ
-most-value = 521
+most-value = 1285
 
-outcome-length : (key : List ℕ) (a : Outcome) → length key ≤ 9 → length (value a) ≤ most-value → length (outcome-line key a) ≤ most-long
+outcome-length : {most : ℕ} (key : List ℕ) (a : Outcome) → length key + length (value a) < most → length (outcome-line key a) ≤ most
 unfolding outcome-line
-outcome-length key a h k = omega (arith, item-length key (value a) line-end)
+outcome-length key a h = omega (arith, item-length key (value a) line-end)
 
 -- the step of a fault, in the lines that tell it
 fault-length : (f : Fault) → FaultUpto most-steps f → length (clean-line (cleanness-is.Unclean f)) ≤ most-short
@@ -97,35 +127,42 @@ fault-length (Own k) (own-upto h) = omega (arith, number-item (bytes "clean=own 
 fault-length (Aborted k) (aborted-upto h) = omega (arith, number-item (bytes "clean=aborted at ") line-end k (omega arith))
 fault-length (Unfinal k) (unfinal-upto h) = omega (arith, number-item (bytes "clean=unfinal at ") line-end k (omega arith))
 
-unclean-length : (f : Fault) → FaultUpto most-steps f → length (value (unclean f)) ≤ most-value
+unclean-length : (f : Fault) → FaultUpto most-steps f → length (value (unclean f)) ≤ 15
 unfolding value bytes fault-step
 unclean-length (Own k) (own-upto h) = omega (arith, four-digits k (omega arith))
 unclean-length (Aborted k) (aborted-upto h) = omega (arith, four-digits k (omega arith))
 unclean-length (Unfinal k) (unfinal-upto h) = omega (arith, four-digits k (omega arith))
 
-members-length : (w : List ℕ) → MembersUpto transactions w → length (numbers w) ≤ 4 * transactions
-members-length w h = omega (arith, numbers-length w (λ t m. omega (arith, h .each t m)), h .few)
+members-length : (w : List ℕ) → MembersUpto transactions w → length (spelled-all (without-reasons w)) ≤ 4 * transactions
+members-length w h = omega (arith, order-length w (λ t m. omega (arith, h .each t m)), h .few)
 
 value-length : (a : Outcome) → OutcomeUpto most-steps transactions a → length (value a) ≤ most-value
 unfolding value bytes
 value-length (order w) (order-upto h) = omega (arith, members-length w h)
-value-length (cycle c) (cycle-upto h) = omega (arith, members-length c h)
+value-length (cycle c) (cycle-upto few h) = omega (arith, cycle-length c h)
 value-length none none-fine = omega arith
-value-length (unclean f) (unclean-upto h) = unclean-length f h
+value-length (unclean f) (unclean-upto h) = omega (arith, unclean-length f h)
 
 module _ (log : List ℕ) (well : log-refusal log ≡ Passed) where
   pub conflict-fits : {w : List ℕ} → ConflictLine log w → length w ≤ most-long
   unfolding bytes
-  conflict-fits (conflict-line {a} h) = outcome-length (bytes "conflict=") a (omega arith) (value-length a (conflict-few log well h))
+  conflict-fits (conflict-line {a} h) = outcome-length (bytes "conflict=") a (omega (arith, value-length a (conflict-few log well h)))
 
   pub version-fits : {w : List ℕ} → VersionLine log w → length w ≤ most-long
   unfolding bytes
-  version-fits (version-line {a} h) = outcome-length (bytes "version=") a (omega arith) (value-length a (version-few log well h))
+  version-fits (version-line {a} h) = outcome-length (bytes "version=") a (omega (arith, value-length a (version-few log well h)))
 
-  pub exact-fits : {w : List ℕ} → ExactLine log w → length w ≤ most-long
+  -- the exact verdict shows no cycle
+  exact-length : {a : Outcome} → Exact transactions log a → OutcomeUpto most-steps transactions a → length (value a) ≤ 517
+  unfolding value bytes
+  exact-length (exact {w} f) (order-upto h) = omega (arith, members-length w h)
+  exact-length (exact-none c n) none-fine = omega arith
+  exact-length (exact-unclean {f} e) (unclean-upto h) = omega (arith, unclean-length f h)
+
+  pub exact-fits : {w : List ℕ} → ExactLine log w → length w ≤ most-exact
   unfolding over-line bytes
   exact-fits (exact-over n e) = omega arith
-  exact-fits (exact-line {a} e h) = outcome-length (bytes "exact=") a (omega arith) (value-length a (exact-few log well h))
+  exact-fits (exact-line {a} e h) = outcome-length (bytes "exact=") a (omega (arith, exact-length h (exact-few log well h)))
 
   -- THE LINES BEFORE THEM
   pub steps-fits : length (header (steps log)) ≤ most-short

@@ -11,14 +11,14 @@ use Rattle.verdict.specs.Outcome.{Outcome, cycle, none}
 use Rattle.verdict.specs.declared.answers.Checked.the-variants.{Passed}
 use Rattle.verdict.specs.declared.answers.Cleanness.the-variants as cleanness-is
 use Rattle.verdict.specs.declared.answers.Snapshot.the-variants as snapshot-is
-use Rattle.verdict.proofs.Samples.{Means, printed-means}
+use Rattle.verdict.proofs.Samples.{Means, led, printed-means}
 use Rattle.text.specs.Bytes.{bytes}
 use Rattle.text.specs.Decimal.{digit, digits, decimal}
 use Rattle.text.specs.Line.{word, item, header, op, line, sayable, has-word, sayable-step}
 use Rattle.text.specs.Text.{lines, text-of, Steps, no-step, a-step}
 use Rattle.text.specs.Reading.{Says}
 use Rattle.text.specs.ReadCall.{most-bytes}
-use Rattle.text.specs.ReportLine.{committed-line, clean-line, snapshot-line, numbers, value, outcome-line}
+use Rattle.text.specs.ReportLine.{committed-line, clean-line, snapshot-line, reason, spelled, spelled-all, value, outcome-line}
 use Rattle.text.specs.Report.{conflict-line, version-line, exact-line, first-lines, LogReport, judged, ReportOf, text-read}
 
 -- the log
@@ -60,13 +60,13 @@ printed-report =
     ++ bytes "committed=2\n"
     ++ bytes "clean=yes\n"
     ++ bytes "snapshot=yes\n"
-    ++ bytes "conflict=cycle 1 2\n"
-    ++ bytes "version=cycle 1 2\n"
+    ++ bytes "conflict=cycle 1 rw:1 2 rw:0\n"
+    ++ bytes "version=cycle 1 rw:1 2 rw:0\n"
     ++ bytes "exact=none\n"
 
 -- the outcome of the two graph verdicts
 both : Outcome
-both = cycle (1 ∷ 2 ∷ [])
+both = cycle (led 1 3 1 ∷ led 2 3 0 ∷ [])
 
 -- what the log means: it stands in verdict's table of samples
 means : Means printed cleanness-is.Yes snapshot-is.Yes both both none [] []
@@ -78,7 +78,7 @@ printed-lines :
     header (steps printed) ++ committed-line (committed-count printed) ++ clean-line cleanness-is.Yes ++ snapshot-line snapshot-is.Yes
     ++ outcome-line (bytes "conflict=") both ++ outcome-line (bytes "version=") both ++ outcome-line (bytes "exact=") none
     ≡ printed-report
-unfolding printed both printed-report header committed-line clean-line snapshot-line outcome-line value numbers item decimal digits digit bytes
+unfolding printed both printed-report header committed-line clean-line snapshot-line outcome-line value spelled-all spelled reason item decimal digits digit bytes
     steps committed-count count kind _is_ _below_ if_then_else_
 printed-lines = refl
 

@@ -11,9 +11,9 @@ use Rattle.verdict.specs.declared.answers.Checked.{Checked}
 use Rattle.text.specs.Report.{ReportOf}
 use Rattle.text.specs.declared.TextAnswer.{TextAnswer}
 
--- the buffer for a report has 2,048 bytes, and every report fits
+-- the buffer for a report has 4,096 bytes, and every report fits
 abbrev pub report-bytes : ℕ
-report-bytes = 2048
+report-bytes = 4096
 
 -- 12: the lent buffer has a wrong length
 unfoldable pub report-refusal : List ℕ → Checked

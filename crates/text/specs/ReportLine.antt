@@ -1,7 +1,9 @@
--- The lines of a report, each with its LF: how 01 prints every answer, and what 02 adds to a wrong read.
+-- The lines of a report, each with its LF: how 01 prints every answer, and what 02 adds to a wrong read and to a cycle.
 use mathlib.Core.List.{List, [], _∷_, _++_}
 use Prim.Native.Nat.{ℕ}
 use Rattle.verdict.specs.Clean.{fault-step}
+use Rattle.words.specs.Tests.{_is_, if_then_else_}
+use Rattle.verdict.specs.Reason.{Entry, without-reasons}
 use Rattle.verdict.specs.Outcome.{Outcome, order, cycle, none, unclean}
 use Rattle.verdict.specs.declared.answers.Fault.{Fault}
 use Rattle.verdict.specs.declared.answers.Cleanness.{Cleanness}
@@ -38,15 +40,27 @@ snapshot-line Snapshot.Yes = bytes "snapshot=yes\n"
 snapshot-line (Snapshot.Read k w) = item (bytes "snapshot=read at ") (decimal k) blank ++ wants w
 snapshot-line (Snapshot.Write k t) = item (bytes "snapshot=write at ") (decimal k) blank ++ item (bytes "with ") (decimal t) line-end
 
--- the members of an order or a cycle, a blank before each
-unfoldable pub numbers : List ℕ → List ℕ
-numbers [] = []
-numbers (n ∷ w) = blank ∷ decimal n ++ numbers w
+-- the reason behind a member of a cycle: its kind, and its object; a member of an order has none
+unfoldable pub reason : ℕ → ℕ → List ℕ
+reason k x =
+    if k is 1 then bytes " ww:" ++ decimal x
+    else if k is 2 then bytes " wr:" ++ decimal x
+    else if k is 3 then bytes " rw:" ++ decimal x
+    else []
 
--- behind the key of a verdict with a witness: order N N .., cycle N N .., none, unclean at K
+-- a member, a blank before it
+unfoldable pub spelled : Entry → List ℕ
+spelled e = bytes " " ++ decimal (e .transaction) ++ reason (e .kind) (e .object)
+
+-- the members of an order or a cycle
+unfoldable pub spelled-all : List Entry → List ℕ
+spelled-all [] = []
+spelled-all (e ∷ w) = spelled e ++ spelled-all w
+
+-- behind the key of a verdict with a witness: order N N .., cycle N KIND:X N KIND:X .., none, unclean at K
 unfoldable pub value : Outcome → List ℕ
-value (order w) = bytes "order" ++ numbers w
-value (cycle c) = bytes "cycle" ++ numbers c
+value (order w) = bytes "order" ++ spelled-all (without-reasons w)
+value (cycle c) = bytes "cycle" ++ spelled-all c
 value none = bytes "none"
 value (unclean f) = bytes "unclean at " ++ decimal (fault-step f)
 

@@ -37,7 +37,7 @@ impl Text {
     pub const WRITTEN: usize = 33803;
 
     // How many bytes the buffer for the report of a text has.
-    pub const REPORT: usize = 2048;
+    pub const REPORT: usize = 4096;
 }
 
 // What a call over a text answers: a refusal with its number and its place, or that it was accepted: how many steps were read, or how

@@ -1,9 +1,8 @@
 // Bytes put into a lent buffer: each function puts something in at a place, and answers the place behind it.
-ghost use mathlib.Core.List.{[], _∷_};
+ghost use mathlib.Core.List.{[], _∷_, _++_};
 ghost use Rattle.text.specs.Decimal.{decimal};
 ghost use Rattle.text.specs.Line.{item};
 ghost use Rattle.text.specs.Inner.Put.{Fits, Puts};
-ghost use Rattle.text.specs.ReportLine.{numbers};
 use crate::decimal::put_decimal;
 
 // Puts a byte.
@@ -28,27 +27,20 @@ pub(crate) fn put_word(out: &mut [u8], at: usize, word: &[u8]) -> usize
     at + i
 }
 
+// Puts a word, and a number behind it.
+pub(crate) fn put_number(out: &mut [u8], at: usize, word: &[u8], n: usize) -> usize
+    requires { ⌜ Fits (now word ++ decimal n) at (now out) ⌝ }
+    ensures { λ r. ⌜ Puts (now (word .entry) ++ decimal n) at (now (out .entry)) r (now (out .exit)) ⌝ }
+{
+    let a = put_word(out, at, word);
+    put_decimal(out, a, n)
+}
+
 // Puts a key, its number, and the byte behind them.
 pub(crate) fn put_item(out: &mut [u8], at: usize, key: &[u8], n: usize, behind: u8) -> usize
     requires { ⌜ Fits (item (now key) (decimal n) behind) at (now out) ⌝ }
     ensures { λ r. ⌜ Puts (item (now (key .entry)) (decimal n) behind) at (now (out .entry)) r (now (out .exit)) ⌝ }
 {
-    let a = put_word(out, at, key);
-    let b = put_decimal(out, a, n);
-    put_byte(out, b, behind)
-}
-
-// Puts the numbers of a list, a blank before each.
-pub(crate) fn put_numbers(out: &mut [u8], at: usize, list: &[u16]) -> usize
-    requires { ⌜ Fits (numbers (now list)) at (now out) ⌝ }
-    ensures { λ r. ⌜ Puts (numbers (now (list .entry))) at (now (out .entry)) r (now (out .exit)) ⌝ }
-{
-    let mut place = at;
-    let mut left = list.len();
-    while 0 < left {
-        let a = put_byte(out, place, b' ');
-        place = put_decimal(out, a, list[list.len() - left] as usize);
-        left -= 1;
-    }
-    place
+    let a = put_number(out, at, key, n);
+    put_byte(out, a, behind)
 }

@@ -1,19 +1,19 @@
 // The lines of a report, each from the answer that it tells.
 ghost use mathlib.Core.Path.{_≡_};
 ghost use mathlib.Core.List.{_++_};
-ghost use Prim.Native.Nat.{_≤_};
+ghost use Prim.Native.Nat.{_*_, _≤_};
 ghost use lib.ListN.{length};
 ghost use Rattle.verdict.specs.Clean.{fault-step};
+ghost use Rattle.verdict.specs.Witness.{entries-in};
 ghost use Rattle.text.specs.Bytes.{bytes, line-end};
 ghost use Rattle.text.specs.Decimal.{decimal};
 ghost use Rattle.text.specs.Line.{item};
-ghost use Rattle.text.specs.ReportLine.{refused-line, clean-line, wants, snapshot-line, numbers};
+ghost use Rattle.text.specs.ReportLine.{refused-line, clean-line, wants, snapshot-line, reason, spelled, spelled-all};
 ghost use Rattle.text.specs.Inner.Put.{Fits, Puts};
 ghost use Rattle.text.specs.Inner.Told.{told, told-entries};
-use crate::decimal::put_decimal;
 use crate::put::put_byte;
 use crate::put::put_item;
-use crate::put::put_numbers;
+use crate::put::put_number;
 use crate::put::put_word;
 use verdict::answers::Answer;
 use verdict::answers::Cleanness;
@@ -78,13 +78,54 @@ pub(crate) fn put_snapshot(out: &mut [u8], at: usize, snapshot: Snapshot) -> usi
     }
 }
 
+// Puts the reason behind a member of a cycle. A member of an order has none.
+fn put_reason(out: &mut [u8], at: usize, kind: u16, x: u16) -> usize
+    requires { ⌜ Fits (reason kind x) at (now out) ⌝ }
+    ensures { λ r. ⌜ Puts (reason kind x) at (now (out .entry)) r (now (out .exit)) ⌝ }
+{
+    if kind == verdict::WW {
+        return put_number(out, at, b" ww:", x as usize);
+    }
+    if kind == verdict::WR {
+        return put_number(out, at, b" wr:", x as usize);
+    }
+    if kind == verdict::RW {
+        return put_number(out, at, b" rw:", x as usize);
+    }
+    at
+}
+
+// Puts a member, a blank before it, and its reason behind it.
+fn put_member(out: &mut [u8], at: usize, transaction: u16, kind: u16, x: u16) -> usize
+    requires { ⌜ Fits (spelled (record { transaction = transaction; kind = kind; object = x })) at (now out) ⌝ }
+    ensures { λ r. ⌜ Puts (spelled (record { transaction = transaction; kind = kind; object = x })) at (now (out .entry)) r (now (out .exit)) ⌝ }
+{
+    let a = put_number(out, at, b" ", transaction as usize);
+    put_reason(out, a, kind, x)
+}
+
+// Puts the members of the first n entries of a list.
+fn put_entries(out: &mut [u8], at: usize, list: &[u16], n: usize) -> usize
+    requires { ⌜ (3 * n ≤ length (now list)) × Fits (spelled-all (entries-in n (now list))) at (now out) ⌝ }
+    ensures { λ r. ⌜ Puts (spelled-all (entries-in n (now (list .entry)))) at (now (out .entry)) r (now (out .exit)) ⌝ }
+{
+    let mut place = at;
+    let mut i = 0;
+    while i < n {
+        let k = 3 * i;
+        place = put_member(out, place, list[k], list[k + 1], list[k + 2]);
+        i += 1;
+    }
+    place
+}
+
 // Puts a word, and behind it the members of an order or a cycle.
-fn put_members(out: &mut [u8], at: usize, word: &[u8], members: &[u16]) -> usize
-    requires { ⌜ Fits (now word ++ numbers (now members)) at (now out) ⌝ }
-    ensures { λ r. ⌜ Puts (now (word .entry) ++ numbers (now (members .entry))) at (now (out .entry)) r (now (out .exit)) ⌝ }
+fn put_members(out: &mut [u8], at: usize, word: &[u8], list: &[u16], n: usize) -> usize
+    requires { ⌜ (3 * n ≤ length (now list)) × Fits (now word ++ spelled-all (entries-in n (now list))) at (now out) ⌝ }
+    ensures { λ r. ⌜ Puts (now (word .entry) ++ spelled-all (entries-in n (now (list .entry)))) at (now (out .entry)) r (now (out .exit)) ⌝ }
 {
     let a = put_word(out, at, word);
-    put_numbers(out, a, members)
+    put_entries(out, a, list, n)
 }
 
 // The step of a fault.
@@ -103,18 +144,17 @@ fn put_unclean(out: &mut [u8], at: usize, fault: Fault) -> usize
     requires { ⌜ Fits (bytes "unclean at " ++ decimal (fault-step fault)) at (now out) ⌝ }
     ensures { λ r. ⌜ Puts (bytes "unclean at " ++ decimal (fault-step fault)) at (now (out .entry)) r (now (out .exit)) ⌝ }
 {
-    let a = put_word(out, at, b"unclean at ");
-    put_decimal(out, a, step_of(fault))
+    put_number(out, at, b"unclean at ", step_of(fault))
 }
 
 // Puts what stands behind the key of a verdict with a witness.
 fn put_value(out: &mut [u8], at: usize, answer: Answer, list: &[u16]) -> usize
-    requires { ⌜ (told-entries answer ≤ length (now list)) × Fits (told answer (now list)) at (now out) ⌝ }
+    requires { ⌜ (3 * told-entries answer ≤ length (now list)) × Fits (told answer (now list)) at (now out) ⌝ }
     ensures { λ r. ⌜ Puts (told answer (now (list .entry))) at (now (out .entry)) r (now (out .exit)) ⌝ }
 {
     match answer {
-        Answer::Order(n) => put_members(out, at, b"order", &list[..n]),
-        Answer::Cycle(n) => put_members(out, at, b"cycle", &list[..n]),
+        Answer::Order(n) => put_members(out, at, b"order", list, n),
+        Answer::Cycle(n) => put_members(out, at, b"cycle", list, n),
         Answer::None => put_word(out, at, b"none"),
         Answer::Unclean(fault) => put_unclean(out, at, fault),
     }
@@ -128,7 +168,7 @@ pub(crate) fn put_answer(
     answer: Answer,
     list: &[u16],
 ) -> usize
-    requires { ⌜ (told-entries answer ≤ length (now list)) × Fits (item (now key) (told answer (now list)) line-end) at (now out) ⌝ }
+    requires { ⌜ (3 * told-entries answer ≤ length (now list)) × Fits (item (now key) (told answer (now list)) line-end) at (now out) ⌝ }
     ensures { λ r. ⌜ Puts (item (now (key .entry)) (told answer (now (list .entry))) line-end) at (now (out .entry)) r (now (out .exit)) ⌝ }
 {
     let a = put_word(out, at, key);

@@ -12,7 +12,7 @@ ghost use Rattle.verdict.specs.Version.{Version};
 ghost use Rattle.verdict.specs.declared.answers.Checked.the-variants.{Passed};
 ghost use Rattle.text.specs.Report.{ConflictLine, VersionLine, ExactLine, first-lines, LogReport, ReportOf};
 ghost use Rattle.text.specs.ReportCall.{report-bytes, ReportCall};
-ghost use Rattle.text.specs.Inner.Put.{Puts, PutsLine, most-long};
+ghost use Rattle.text.specs.Inner.Put.{Puts, PutsLine, most-long, most-exact};
 use crate::Text;
 use crate::TextAnswer;
 use crate::clear::clear_bytes_from;
@@ -67,8 +67,8 @@ fn put_version(log: &[u16], found: Witnessed, out: &mut [u8], at: usize) -> usiz
 
 // Puts the line of the exact verdict.
 fn put_exact(log: &[u16], found: ExactWitnessed, out: &mut [u8], at: usize) -> usize
-    requires { ⌜ (log-refusal (now log) ≡ Passed) × ExactIs (now log) found × (at + most-long ≤ length (now out)) ⌝ }
-    ensures { λ r. ⌜ PutsLine most-long (ExactLine (now (log .entry))) at (now (out .entry)) r (now (out .exit)) ⌝ }
+    requires { ⌜ (log-refusal (now log) ≡ Passed) × ExactIs (now log) found × (at + most-exact ≤ length (now out)) ⌝ }
+    ensures { λ r. ⌜ PutsLine most-exact (ExactLine (now (log .entry))) at (now (out .entry)) r (now (out .exit)) ⌝ }
 {
     let exactness = found.exactness;
     let list = found.list;

@@ -1,7 +1,7 @@
 -- How large the values of an answer are, and the number and the place of a refusal: for whoever prints or packs them.
 use mathlib.Core.Path.{_≡_, refl, sym}
 use mathlib.Core.Bool.{Bool, true, false}
-use mathlib.Core.List.{List}
+use mathlib.Core.List.{List, [], _∷_}
 use mathlib.Core.Logic.{⊎-elim}
 use Prim.Native.Nat.{ℕ, zero, suc, _≤_, _<_}
 use native.Mathlib.Omega.{arith}
@@ -14,9 +14,11 @@ use Rattle.graph.specs.Cycle.{is-cycle}
 use Rattle.verdict.specs.Outcome.{order, cycle, Outcome, none, unclean, OfGraph, shows-order, shows-cycle}
 use Rattle.graph.specs.Shows as shows
 use Rattle.words.proofs.Truth.{decide, to-true, to-false, and→, is→, below→, not-below→, if-true, if-false, some→, lowest-is, lowest-bound, highest-is, highest-none, count-above}
-use Rattle.words.proofs.Places.{all→}
+use Rattle.words.proofs.Places.{member-head, member-tail, all→}
 use Rattle.graph.proofs.Judge.{nodes, nodes-length, there-node, once-over, once-length, cycle-over, cycle-length}
-use Rattle.verdict.specs.Limits.{transactions, most-steps}
+use Rattle.verdict.specs.Limits.{transactions, objects, most-steps}
+use Rattle.verdict.specs.Reason.{Entry, first-object, leading, leading-on, with-reasons}
+use Rattle.verdict.proofs.Threes.{reasons-length}
 use Rattle.verdict.specs.Log.{steps, kind, tx, obj, src, begins, begun, committed, committed-count, aborted, begin-step, commits-writer}
 use Rattle.verdict.specs.declared.answers.Checked.{Checked}
 use Rattle.verdict.specs.declared.answers.Checked.the-variants.{Passed, Refused}
@@ -119,12 +121,30 @@ pub record MembersUpto (m : ℕ) (w : List ℕ) : Type 0 where
   pub few : length w ≤ m
   pub each : (t : ℕ) → member t w ≡ true → t ≤ m
 
+-- entries of transactions up to m and objects up to o
+pub data EntriesUpto (m o : ℕ) : List Entry → Type 0 where
+  no-entry : EntriesUpto m o []
+  an-entry : {e : Entry} {c : List Entry} → e .transaction ≤ m → e .object ≤ o → EntriesUpto m o c → EntriesUpto m o (e ∷ c)
+
 -- an order or a cycle of at most m members, each up to m, or a fault at a step up to n
 pub data OutcomeUpto (n m : ℕ) : Outcome → Type 0 where
   order-upto : {w : List ℕ} → MembersUpto m w → OutcomeUpto n m (order w)
-  cycle-upto : {c : List ℕ} → MembersUpto m c → OutcomeUpto n m (cycle c)
+  cycle-upto : {c : List Entry} → length c ≤ m → EntriesUpto m objects c → OutcomeUpto n m (cycle c)
   none-fine : OutcomeUpto n m none
   unclean-upto : {f : Fault} → FaultUpto n f → OutcomeUpto n m (unclean f)
+
+-- the reasons are on objects
+module _ (on : ℕ → ℕ → ℕ → ℕ → Bool) where
+  leading-upto : {m : ℕ} (home : ℕ) (c : List ℕ) → ((t : ℕ) → member t c ≡ true → t ≤ m) → EntriesUpto m objects (leading-on on home c)
+  unfolding leading-on leading first-object
+  leading-upto home [] f = no-entry
+  leading-upto home (a ∷ []) f = an-entry (f a (member-head a [])) (lowest-bound {n = objects} _) no-entry
+  leading-upto home (a ∷ b ∷ c) f = an-entry (f a (member-head a (b ∷ c))) (lowest-bound {n = objects} _) (leading-upto home (b ∷ c) (λ t h. f t (member-tail t a (b ∷ c) h)))
+
+  reasons-upto : {m : ℕ} (c : List ℕ) → ((t : ℕ) → member t c ≡ true → t ≤ m) → EntriesUpto m objects (with-reasons on c)
+  unfolding with-reasons
+  reasons-upto [] f = no-entry
+  reasons-upto (a ∷ c) f = leading-upto a (a ∷ c) f
 
 count-upto : (n : ℕ) (p : ℕ → Bool) → count n p ≤ n
 unfolding count
@@ -165,15 +185,17 @@ module _ (log : List ℕ) (well : log-refusal log ≡ Passed) where
   pub once-few : (w : List ℕ) → once-each (suc transactions) (committed log) w ≡ true → MembersUpto transactions w
   once-few w h = nodes-upto w (once-over (suc transactions) (committed log) w h) (omega (arith, once-length (suc transactions) (committed log) w h))
 
-  cycle-few : (edge : ℕ → ℕ → Bool) → ((a b : ℕ) → edge a b ≡ true → (a < suc transactions) × (committed log a ≡ true)) → (c : List ℕ) → is-cycle edge c ≡ true
+  pub cycle-few : (edge : ℕ → ℕ → Bool) → ((a b : ℕ) → edge a b ≡ true → (a < suc transactions) × (committed log a ≡ true)) → (c : List ℕ) → is-cycle edge c ≡ true
       → MembersUpto transactions c
   cycle-few edge ends c h = nodes-upto c (cycle-over (suc transactions) (committed log) edge ends c h) (omega (arith, cycle-length (suc transactions) (committed log) edge ends c h))
 
-  shown-few : (edge : ℕ → ℕ → Bool) → ((a b : ℕ) → edge a b ≡ true → (a < suc transactions) × (committed log a ≡ true)) → {a : Outcome}
-      → OfGraph transactions log edge a → OutcomeUpto most-steps transactions a
+  shown-few : (edge : ℕ → ℕ → Bool) {on : ℕ → ℕ → ℕ → ℕ → Bool} → ((a b : ℕ) → edge a b ≡ true → (a < suc transactions) × (committed log a ≡ true)) → {a : Outcome}
+      → OfGraph transactions log edge on a → OutcomeUpto most-steps transactions a
   unfolding is-order
   shown-few edge ends (shows-order {w} (shows.shows-order n f)) = order-upto (once-few w (and→ (f .one) .0))
-  shown-few edge ends (shows-cycle {c} (shows.shows-cycle f)) = cycle-upto (cycle-few edge ends c (f .one))
+  shown-few edge {on} ends (shows-cycle {c} (shows.shows-cycle f)) =
+      let k = cycle-few edge ends c (f .one) in
+      cycle-upto {c = with-reasons on c} (omega (arith, reasons-length on c, k .few)) (reasons-upto on c (k .each))
 
   -- the step of a fault
   pub fault-few : {f : Fault} → cleanness log ≡ Unclean f → FaultUpto most-steps f

@@ -13,9 +13,10 @@ use Rattle.graph.specs.declared.Shape.{Shape}
 use Rattle.graph.specs.declared.Shape.the-variants.{Order, Cycle}
 use Rattle.verdict.specs.Log.{committed}
 use Rattle.verdict.specs.Clean.{is-clean, cleanness}
+use Rattle.verdict.specs.Reason.{with-reasons}
 use Rattle.verdict.specs.Outcome.{Outcome, order, cycle, unclean, OfGraph, shows-order, shows-cycle}
-use Rattle.verdict.specs.Conflict.{conflict-edge, Conflict}
-use Rattle.verdict.specs.Version.{version-edge, Version, version, version-unclean}
+use Rattle.verdict.specs.Conflict.{conflict-on, conflict-edge, Conflict}
+use Rattle.verdict.specs.Version.{version-on, version-edge, Version, version, version-unclean}
 use Rattle.verdict.specs.Replay.{serial, explains-loosely, explains}
 use Rattle.verdict.specs.Exact.{Exact, exact, exact-none, exact-unclean}
 use Rattle.verdict.specs.Next.{Next, next, next-none}
@@ -38,15 +39,16 @@ first-or-none (w ∷ ws) = order w
 first-or-none [] = Outcome.none
 
 -- what is shown of a graph, as an outcome
-unfoldable pub outcome-of : Shape → List ℕ → Outcome
-outcome-of Order w = order w
-outcome-of Cycle c = cycle c
+unfoldable pub outcome-of : (ℕ → ℕ → ℕ → ℕ → Bool) → Shape → List ℕ → Outcome
+outcome-of on Order w = order w
+outcome-of on Cycle c = cycle (with-reasons on c)
 
-unfoldable pub outcome-shown : Option (Shape × List ℕ) → Option Outcome
-outcome-shown (just s) = just (outcome-of (s .0) (s .1))
-outcome-shown none = none
+unfoldable pub outcome-shown : (ℕ → ℕ → ℕ → ℕ → Bool) → Option (Shape × List ℕ) → Option Outcome
+outcome-shown on (just s) = just (outcome-of on (s .0) (s .1))
+outcome-shown on none = none
 
-pub of-graph : {most : ℕ} {log : List ℕ} {edge : ℕ → ℕ → Bool} (s : Shape) (w : List ℕ) → Shows (suc most) (committed log) edge s w → OfGraph most log edge (outcome-of s w)
+pub of-graph : {most : ℕ} {log : List ℕ} {edge : ℕ → ℕ → Bool} {on : ℕ → ℕ → ℕ → ℕ → Bool} (s : Shape) (w : List ℕ) → Shows (suc most) (committed log) edge s w
+    → OfGraph most log edge on (outcome-of on s w)
 unfolding outcome-of
 of-graph Order w h = shows-order h
 of-graph Cycle c h = shows-cycle h
@@ -64,10 +66,10 @@ module _ (most : ℕ) (log : List ℕ) where
   orders p = sift p (tuples (length (nodes (suc most) (committed log))) (nodes (suc most) (committed log)))
 
   unfoldable pub judge-conflict : Option Outcome
-  judge-conflict = outcome-shown (judge-graph (suc most) (committed log) (plain-conflict log))
+  judge-conflict = outcome-shown (conflict-on log) (judge-graph (suc most) (committed log) (plain-conflict log))
 
   unfoldable pub judge-version : Option Outcome
-  judge-version = if-clean (cleanness log) (λ f. just (unclean f)) (outcome-shown (judge-graph (suc most) (committed log) (plain-version log)))
+  judge-version = if-clean (cleanness log) (λ f. just (unclean f)) (outcome-shown (version-on log) (judge-graph (suc most) (committed log) (plain-version log)))
 
   unfoldable pub judge-exact : Outcome
   judge-exact = if-clean (cleanness log) unclean (first-or-none (orders (explains-loosely most log)))
@@ -110,26 +112,26 @@ module _ {most : ℕ} (log : List ℕ) (well : Well most log) where
   version-ends cl a b h = node-of a (version-leaves log well a b h cl)
 
   -- WHAT IS COMPUTED IS WHAT IS ASKED FOR
-  module _ (edge plain : ℕ → ℕ → Bool) (same : plain ≡ edge) (ends : (a b : ℕ) → edge a b ≡ true → (a < suc most) × (committed log a ≡ true)) where
-    graph-right : (a : Outcome) (o : Option (Shape × List ℕ)) → judge-graph (suc most) (committed log) plain ≡ o → outcome-shown o ≡ just a → OfGraph most log edge a
+  module _ (edge plain : ℕ → ℕ → Bool) (on : ℕ → ℕ → ℕ → ℕ → Bool) (same : plain ≡ edge) (ends : (a b : ℕ) → edge a b ≡ true → (a < suc most) × (committed log a ≡ true)) where
+    graph-right : (a : Outcome) (o : Option (Shape × List ℕ)) → judge-graph (suc most) (committed log) plain ≡ o → outcome-shown on o ≡ just a → OfGraph most log edge on a
     unfolding outcome-shown
     graph-right a none h f = let z : _≡_ {A = ℕ} 0 1 = cc in absurd (omega arith)
     graph-right a (just u) h f =
-        let z : outcome-of (u .0) (u .1) ≡ a = cc in
+        let z : outcome-of on (u .0) (u .1) ≡ a = cc in
         rw (← z) (of-graph (u .0) (u .1) (judge-shows (suc most) (committed log) edge ends u (rw same at h)))
 
   pub conflict-right : (a : Outcome) → judge-conflict most log ≡ just a → Conflict most log a
   unfolding judge-conflict
-  conflict-right a e = graph-right (conflict-edge log) (plain-conflict log) same-conflicts conflict-ends a _ refl e
+  conflict-right a e = graph-right (conflict-edge log) (plain-conflict log) (conflict-on log) same-conflicts conflict-ends a _ refl e
 
   pub version-right : (a : Outcome) → judge-version most log ≡ just a → Version most log a
   unfolding judge-version if-clean
   version-right a e = go (cleanness log) refl e
     where
       go : (c : Cleanness) → cleanness log ≡ c
-          → if-clean c (λ f. just (unclean f)) (outcome-shown (judge-graph (suc most) (committed log) (plain-version log))) ≡ just a → Version most log a
+          → if-clean c (λ f. just (unclean f)) (outcome-shown (version-on log) (judge-graph (suc most) (committed log) (plain-version log))) ≡ just a → Version most log a
       go (Unclean x) g f = let z : unclean x ≡ a = cc in rw (← z) (version-unclean g)
-      go Yes g f = version g (graph-right (version-edge log) (plain-version log) same-versions (version-ends (cleanness-clean log g)) a _ refl f)
+      go Yes g f = version g (graph-right (version-edge log) (plain-version log) (version-on log) same-versions (version-ends (cleanness-clean log g)) a _ refl f)
 
 pub exact-right : (most : ℕ) (log : List ℕ) → Exact most log (judge-exact most log)
 unfolding judge-exact first-or-none if-clean

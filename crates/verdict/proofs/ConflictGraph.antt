@@ -8,22 +8,19 @@ use native.Mathlib.Omega.{arith}
 use native.Mathlib.Numerals.{add-one}
 use lib.ListN.{replicate, length-replicate}
 use Rattle.words.specs.Tests.{_is_, _upto_, _and_, _or_, some}
-use Rattle.graph.specs.Matrix.{row-words, takes-part, joined, in-row, Joins}
+use Rattle.graph.specs.Matrix.{row-words, takes-part, in-row, Joins}
 use Rattle.graph.proofs.TwoWords.{no-member}
 use Rattle.graph.proofs.RowLaws.{no-rows}
 use Rattle.words.proofs.Truth.{decide, not-both, same-test, and→, →and, and-true, and-no-left, or→, →or-left, →or-right, or-no, →fails, fails→, isnt→, is→, →is, →isnt, →upto, if-true, if-false, some→, →some, →none, some-next, some-skip}
 use Rattle.verdict.specs.Limits.{transactions, objects}
 use Rattle.verdict.specs.Log.{steps, kind, tx, obj, committed}
-use Rattle.verdict.specs.Judgement.{Holds}
-use Rattle.verdict.specs.Conflict.{conflict-edge, Conflict}
-use Rattle.verdict.specs.declared.answers.Witnessed.{Witnessed}
+use Rattle.verdict.specs.Conflict.{conflict-edge}
 use Rattle.verdict.specs.Inner.ConflictEdges.{touched-row, earlier-touch, touched-by, Touched, touches, meet-somehow, plain-conflict, conflict-pair, conflicts-until}
-use Rattle.verdict.specs.Inner.Edges.{Pair, one-edge, Drawn, Showing}
-use Rattle.verdict.specs.Inner.Marks.{Committed}
+use Rattle.verdict.specs.Inner.Edges.{Pair, one-edge, Drawn}
 use Rattle.verdict.proofs.WellFormed.{Well}
 use Rattle.verdict.proofs.Versions.{not-zero}
 use Rattle.verdict.proofs.Dependencies.{plain-conflict-edge}
-use Rattle.verdict.proofs.Matrices.{Kept, →kept, one-edge→, →one-edge, set-more, Between, shown-of}
+use Rattle.verdict.proofs.Matrices.{Kept, →kept, one-edge→, →one-edge, set-more, Between}
 
 -- WHICH ROW IS TOUCHED
 reader-row : (x : ℕ) → touched-row 2 x ≡ suc x
@@ -219,8 +216,3 @@ conflict-between log =
       from = λ a b h. and→ (and→ (and→ h .0) .0) .1;
       to = λ a b h. and→ (and→ h .0) .1;
     }
-
--- what is shown of the matrix is the verdict's answer
-pub conflict-holds : {log m part : List ℕ} {r : Witnessed} → Committed log part → Drawn (conflict-edge log) m
-    → Showing (takes-part transactions part) (joined transactions m part) r → Holds (Conflict transactions log) r
-conflict-holds {log} marks drawn = shown-of marks drawn (conflict-between log)

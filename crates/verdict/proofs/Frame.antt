@@ -5,7 +5,7 @@ use Prim.Native.Nat.{ℕ}
 use lib.ListN.{length}
 use Rattle.words.specs.Lists.{zeros}
 use Rattle.words.proofs.Truth.{not-fails→, →not-fails, is→, →is}
-use Rattle.verdict.specs.Limits.{work-bytes, witness-entries, order-entries}
+use Rattle.verdict.specs.Limits.{work-bytes, witness-buffer, order-entries}
 use Rattle.verdict.specs.Refusal.{_else-try_, work-refusal, witness-refusal, order-refusal}
 use Rattle.verdict.specs.Outcome.{Outcome}
 use Rattle.verdict.specs.Judgement.{Holds}
@@ -25,7 +25,7 @@ pub work-length : (work : List ℕ) → work-refusal work ≡ Passed → length 
 unfolding work-refusal
 work-length work e = is→ (not-fails→ (when→ 12 0 _ e))
 
-pub witness-length : (lent : List ℕ) → witness-refusal lent ≡ Passed → length lent ≡ witness-entries
+pub witness-length : (lent : List ℕ) → witness-refusal lent ≡ Passed → length lent ≡ witness-buffer
 unfolding witness-refusal
 witness-length lent e = is→ (not-fails→ (when→ 12 0 _ e))
 
@@ -34,7 +34,7 @@ pub work-passed : (work : List ℕ) → length work ≡ work-bytes → work-refu
 unfolding work-refusal
 work-passed work e = when-no 12 0 (→not-fails (→is e))
 
-pub witness-passed : (lent : List ℕ) → length lent ≡ witness-entries → witness-refusal lent ≡ Passed
+pub witness-passed : (lent : List ℕ) → length lent ≡ witness-buffer → witness-refusal lent ≡ Passed
 unfolding witness-refusal
 witness-passed lent e = when-no 12 0 (→not-fails (→is e))
 
@@ -55,7 +55,7 @@ work-left a work work′ e c = ap (λ (l : List ℕ). l ∷ []) (c ∙ ap zeros 
 pub record Admitted (rest : Checked) (work lent : List ℕ) : Type 0 where
   pub passed : (work-refusal work else-try witness-refusal lent else-try rest) ≡ Passed
   pub work-size : length work ≡ work-bytes
-  pub witness-size : length lent ≡ witness-entries
+  pub witness-size : length lent ≡ witness-buffer
   pub well : rest ≡ Passed
 
 module _ (rest : Checked) (work lent : List ℕ) {r : Checked} (told : r ≡ (work-refusal work else-try witness-refusal lent else-try rest)) where

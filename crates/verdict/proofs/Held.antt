@@ -2,20 +2,20 @@
 use mathlib.Core.Path.{_≡_, refl, sym, ap, _∙_}
 use mathlib.Core.Bool.{true}
 use mathlib.Core.List.{List, [], _∷_, _++_}
-use Prim.Native.Nat.{ℕ, zero, suc, _+_, _-_, _≤_}
+use Prim.Native.Nat.{ℕ, zero, suc, _+_, _-_, _*_, _≤_}
 use native.Mathlib.Omega.{arith}
 use lib.ListN.{length, length-append, length-replicate}
-use lib.Seq.{take-at}
 use Rattle.words.specs.Tests.{_is_}
 use Rattle.words.specs.Lists.{member, all, zeros, entries}
 use Rattle.graph.specs.Order.{once-each}
 use Rattle.words.proofs.Truth.{and→, →and, →is, →not-fails}
 use Rattle.words.proofs.Places.{member-head, member-tail, all→}
-use Rattle.verdict.specs.Limits.{transactions, witness-entries, order-entries}
+use Rattle.verdict.specs.Limits.{transactions, witness-buffer, order-entries}
 use Rattle.verdict.specs.Log.{committed}
 use Rattle.verdict.specs.Refusal.{log-refusal}
 use Rattle.verdict.specs.Outcome.{Outcome, order, cycle, none, unclean, said, members}
-use Rattle.verdict.specs.Witness.{read-off, handed}
+use Rattle.verdict.specs.Reason.{Entry, without-reasons}
+use Rattle.verdict.specs.Witness.{in-threes, read-off, handed}
 use Rattle.verdict.specs.Witness as lent
 use Rattle.verdict.specs.Replay.{serial, explains}
 use Rattle.verdict.specs.Next.{up-to-zero, from-zero, list-refusal}
@@ -31,6 +31,7 @@ use Rattle.verdict.proofs.Versions.{not-zero}
 use Rattle.verdict.proofs.Computed.{explains-serial}
 use Rattle.verdict.proofs.Refused.{when-no}
 use Rattle.verdict.proofs.Only.{buffers-one}
+use Rattle.verdict.proofs.Threes.{plain-length, threes-length, read-order}
 use Rattle.verdict.proofs.Bounds.{once-few}
 use Rattle.verdict.proofs.HandedIn.{stops, goes, starts, passes}
 
@@ -85,11 +86,6 @@ module _ (log : List ℕ) (well : log-refusal log ≡ Passed) (w : List ℕ) (h 
       let k : ℕ = order-entries - length w in
       when-no 14 0 (→not-fails (→and (rw (front-held w k no-zero) h) (rw (back-held w k no-zero) (all-zero k))))
 
--- a witness with an order is the order as it is handed in
-pub witness-handed : (w : List ℕ) → lent.witness (order w) ≡ handed w
-unfolding lent.witness members handed
-witness-handed w = refl
-
 -- WHAT A CALL WITH A WITNESS ANSWERED
 -- an order: its members, which are read off the witness
 pub record Ordered (refusal : Checked) (verdict : Outcome → Type 0) (n : ℕ) (witness′ : List ℕ) : Type 0 where
@@ -97,16 +93,17 @@ pub record Ordered (refusal : Checked) (verdict : Outcome → Type 0) (n : ℕ) 
   pub w : List ℕ
   pub right : verdict (order w)
   pub left : witness′ ≡ lent.witness (order w)
-  pub room : n ≤ length witness′
+  pub room : 3 * n ≤ length witness′
   pub taken-out : read-off n witness′ ≡ w
 
 -- the order of n members in its witness
-pub taken-off : (w : List ℕ) {n : ℕ} → n ≡ length w → (read-off n (lent.witness (order w)) ≡ w) × (n ≤ length (lent.witness (order w)))
-unfolding read-off lent.witness members entries
+pub taken-off : (w : List ℕ) {n : ℕ} → n ≡ length w → (read-off n (lent.witness (order w)) ≡ w) × (3 * n ≤ length (lent.witness (order w)))
+unfolding lent.witness members entries
 taken-off w {n} e =
-    let z = zeros (witness-entries - length w) in
-    let l : length (w ++ z) ≡ length w + length z = length-append w z in
-    (take-at w z n (sym e), omega arith)
+    let v = in-threes (without-reasons w) in
+    let z = zeros (witness-buffer - length v) in
+    let l : length (v ++ z) ≡ length v + length z = length-append v z in
+    (rw e (read-order w z), omega (arith, threes-length (without-reasons w), plain-length w))
 
 -- which outcome is said
 told-order : (a : Outcome) {n : ℕ} → Judged (Order n) ≡ said-judged a → (w : List ℕ) × (a ≡ order w) × (n ≡ length w)
@@ -123,7 +120,7 @@ told-none (cycle c) e = let z : _≡_ {A = ℕ} 0 1 = cc in absurd (omega arith)
 told-none none e = refl
 told-none (unclean f) e = let z : _≡_ {A = ℕ} 0 1 = cc in absurd (omega arith)
 
-told-cycle : (a : Outcome) {n : ℕ} → Judged (Cycle n) ≡ said-judged a → (c : List ℕ) × (a ≡ cycle c)
+told-cycle : (a : Outcome) {n : ℕ} → Judged (Cycle n) ≡ said-judged a → (c : List Entry) × (a ≡ cycle c)
 unfolding said-judged said
 told-cycle (order w) e = let z : _≡_ {A = ℕ} 0 1 = cc in absurd (omega arith)
 told-cycle (cycle c) e = (c, refl)
@@ -156,7 +153,7 @@ module _ (refusal : Checked) {verdict : Outcome → Type 0} {work witness work�
   pub call-none : WitnessCall refusal verdict work witness (Judged None) work′ witness′ → verdict none
   call-none c = let j = call-judged c in rw (told-none (j .0) (j .3)) at (j .2)
 
-  pub call-cycle : {n : ℕ} → WitnessCall refusal verdict work witness (Judged (Cycle n)) work′ witness′ → (refusal ≡ Passed) × ((c : List ℕ) × verdict (cycle c))
+  pub call-cycle : {n : ℕ} → WitnessCall refusal verdict work witness (Judged (Cycle n)) work′ witness′ → (refusal ≡ Passed) × ((c : List Entry) × verdict (cycle c))
   call-cycle c = let j = call-judged c in let t = told-cycle (j .0) (j .3) in (j .1, (t .0, rw (t .1) at (j .2)))
 
   pub call-unclean : {f : Fault} → WitnessCall refusal verdict work witness (Judged (Unclean f)) work′ witness′ → (refusal ≡ Passed) × verdict (unclean f)

@@ -35,6 +35,12 @@ pub mod Computed
 pub mod VersionGraph
 pub mod Some
 pub mod Memberless
+pub mod Threes
+pub mod LeastReasons
+pub mod Standing
+pub mod ShownGraph
+pub mod VersionReasons
+pub mod ConflictReasons
 pub mod Searching
 pub mod SearchTables
 pub mod Roster

@@ -14,9 +14,10 @@ use Rattle.words.specs.Listed.{here, Listed}
 use Rattle.graph.specs.Order.{once-each, is-order}
 use Rattle.graph.specs.Cycle.{is-cycle}
 use Rattle.graph.specs.Shows as shows
-use Rattle.verdict.specs.Limits.{transactions, work-bytes, witness-entries}
+use Rattle.verdict.specs.Limits.{transactions, work-bytes, witness-buffer}
 use Rattle.verdict.specs.Refusal.{_else-try_, order-refusal, log-refusal}
 use Rattle.verdict.specs.Clean.{is-clean}
+use Rattle.verdict.specs.Reason.{Entry}
 use Rattle.verdict.specs.Outcome.{Outcome, order, cycle, none, unclean, said, shows-order, shows-cycle}
 use Rattle.verdict.specs.Version.{version-edge, Version, version, version-unclean}
 use Rattle.verdict.specs.Replay.{serial, explains-loosely, explains}
@@ -64,9 +65,9 @@ module _ {most : ℕ} (log : List ℕ) (well : Well most log) where
   pub unclean-never : (f : Fault) → Version most log (unclean f) → Never (explains most log)
   unclean-never f (version-unclean u) v = to-false _ (λ h. clean≢unclean (clean-cleanness log (explains→ most log v h .0)) u)
 
-  pub cycle-never : (c : List ℕ) → Version most log (cycle c) → Never (explains most log)
+  pub cycle-never : (c : List Entry) → Version most log (cycle c) → Never (explains most log)
   unfolding serial once-each
-  cycle-never c (version cl (shows-cycle (shows.shows-cycle f))) v = to-false _ (λ h. not-both (f .one) (none-here v h c))
+  cycle-never c (version cl (shows-cycle {c = ring} (shows.shows-cycle f))) v = to-false _ (λ h. not-both (f .one) (none-here v h ring))
     where
       none-here : (v : List ℕ) → explains most log v ≡ true → Never (is-cycle (version-edge log))
       none-here v h =
@@ -174,7 +175,7 @@ module _ (log : List ℕ) where
 
   -- it is empty exactly when a read is unclean or the version verdict shows a cycle
   pub listing-empty : {ws : List (List ℕ)} → Listing log ws
-      → (ws ≡ []) ↔ (((f : Fault) × Version transactions log (unclean f)) ⊎ ((c : List ℕ) × Version transactions log (cycle c)))
+      → (ws ≡ []) ↔ (((f : Fault) × Version transactions log (unclean f)) ⊎ ((c : List Entry) × Version transactions log (cycle c)))
   listing-empty {ws} l =
       let well = well-formed log (listing-well l) in
       (λ e. from l e, λ r. ⊎-elim (λ u. nothing (unclean-never log well (u .0) (u .1)) ws (listing-right l)) (λ c. nothing (cycle-never log well (c .0) (c .1)) ws (listing-right l)) r)
@@ -188,14 +189,14 @@ module _ (log : List ℕ) where
       nothing n [] k = refl
       nothing n (w ∷ ws) k = absurd (not-both (k .only w here) (n w))
 
-      from : {ws : List (List ℕ)} → Listing log ws → ws ≡ [] → ((f : Fault) × Version transactions log (unclean f)) ⊎ ((c : List ℕ) × Version transactions log (cycle c))
+      from : {ws : List (List ℕ)} → Listing log ws → ws ≡ [] → ((f : Fault) × Version transactions log (unclean f)) ⊎ ((c : List Entry) × Version transactions log (cycle c))
       from (from-first o a) e = let z : _≡_ {A = ℕ} 0 1 = cc in absurd (omega arith)
       from (empty-cycle c) e = inr (call-cycle (log-refusal log) c .1)
       from (empty-unclean {f} c) e = inl (f, call-unclean (log-refusal log) c .1)
 
   -- ASKING GOES ON TO THE END
   -- with buffers of the right length, "next" is not turned away: it answers none, or an order
-  pub asking-goes-on : {v : List ℕ} → Brought log v → {work witness work′ witness′ : List ℕ} {r : WitnessAnswer} → length work ≡ work-bytes → length witness ≡ witness-entries
+  pub asking-goes-on : {v : List ℕ} → Brought log v → {work witness work′ witness′ : List ℕ} {r : WitnessAnswer} → length work ≡ work-bytes → length witness ≡ witness-buffer
       → NextCall log (handed v) work witness r work′ witness′ → (r ≡ Judged None) ⊎ ((n : ℕ) × (r ≡ Judged (Order n)))
   unfolding said-judged said
   asking-goes-on o {work} {witness} p q (turned-away m k g e f) =
@@ -230,10 +231,10 @@ module _ (log : List ℕ) where
   module _ (well : log-refusal log ≡ Passed) where
     -- a call with empty buffers, where nothing turns it away
     call-of : (refusal : Checked) {verdict : Outcome → Type 0} (a : Outcome) → refusal ≡ Passed → verdict a
-        → WitnessCall refusal verdict (zeros work-bytes) (zeros witness-entries) (said-judged a) (zeros work-bytes) (lent.witness a)
+        → WitnessCall refusal verdict (zeros work-bytes) (zeros witness-buffer) (said-judged a) (zeros work-bytes) (lent.witness a)
     unfolding leaves-witness zeros
     call-of refusal a e v =
-        answered a (sym (both-passed (work-passed (zeros work-bytes) (length-replicate {A = ℕ} work-bytes 0)) (both-passed (witness-passed (zeros witness-entries) (length-replicate {A = ℕ} witness-entries 0)) e))) v refl refl
+        answered a (sym (both-passed (work-passed (zeros work-bytes) (length-replicate {A = ℕ} work-bytes 0)) (both-passed (witness-passed (zeros witness-buffer) (length-replicate {A = ℕ} witness-buffer 0)) e))) v refl refl
 
     -- the order that a call shows, and the one that it brings
     version-order-of : (w : List ℕ) → Version transactions log (order w) → VersionOrder log w

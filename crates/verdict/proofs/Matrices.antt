@@ -1,6 +1,6 @@
 -- The edges of a graph in rows: some edges more, and what is shown of the rows is what is shown of the graph.
 use mathlib.Core.Path.{_≡_, refl, sym, ap, fun-ext, _∙_}
-use mathlib.Core.Bool.{Bool, true, false}
+use mathlib.Core.Bool.{Bool, true}
 use mathlib.Core.Logic.{⊎-elim}
 use mathlib.Core.List.{List}
 use Prim.Native.Nat.{ℕ, suc, _≤_}
@@ -11,19 +11,14 @@ use Rattle.words.specs.Lists.{zeros}
 use Rattle.graph.specs.Order.{is-order}
 use Rattle.graph.specs.Matrix.{matrix-order, row-words, takes-part, joined, in-row, Joins, Sorts}
 use Rattle.graph.specs.Shows.{Shows}
-use Rattle.graph.specs.declared.Shape.{Shape}
-use Rattle.graph.specs.declared.Shape.the-variants as shapes
 use Rattle.graph.specs.declared.Shown.{Shown}
-use Rattle.words.proofs.Truth.{not-both, same-test, and→, →and, and-true-right, or→, →or-left, →fails, fails→, is→, isnt→, →is, →isnt, →upto}
+use Rattle.words.proofs.Truth.{not-both, same-test, and→, →and, and-true-right, or→, →or-left, or-assoc, →fails, fails→, is→, isnt→, →is, →isnt, →upto}
 use Rattle.graph.proofs.Marks.{part→, joined→, in-row-of, joined-by-row}
 use Rattle.graph.proofs.TwoWords.{no-member}
 use Rattle.graph.proofs.RowLaws.{no-rows}
 use Rattle.verdict.specs.Limits.{transactions}
 use Rattle.verdict.specs.Log.{committed}
-use Rattle.verdict.specs.Outcome.{order, cycle, said, members, OfGraph, shows-order, shows-cycle}
-use Rattle.verdict.specs.Judgement.{Holds}
-use Rattle.verdict.specs.declared.answers.Witnessed.{Witnessed}
-use Rattle.verdict.specs.Inner.Edges.{Pair, kept, one-edge, no-edge, EdgeAdded, EdgesAdded, Drawn, answer-of, Showing}
+use Rattle.verdict.specs.Inner.Edges.{Pair, kept, one-edge, no-edge, EdgeAdded, EdgesAdded, Drawn}
 use Rattle.verdict.specs.Inner.Marks.{Committed}
 
 -- WHICH EDGES ARE KEPT
@@ -81,11 +76,6 @@ edge-added {m} {one} {m′} {s} {t} size e g =
         let high-b : b ≤ transactions = p .4 in
         →and (→and (→and (→is (sym v)) (→upto (omega arith))) (→upto (omega arith))) (e a ∙ →or-left _ (→and (→and (→is (sym u)) (→upto (omega arith))) (→upto (omega arith))))
 
-or-assoc : (x y z : Bool) → (x or (y or z)) ≡ ((x or y) or z)
-unfolding _or_
-or-assoc true y z = refl
-or-assoc false y z = refl
-
 -- .. and another one
 pub edges-added : {m m′ m″ : List ℕ} {v t u : ℕ} → EdgeAdded m v t m′ → EdgeAdded m′ t u m″ → EdgesAdded m v t u m″
 edges-added {m} {t} {u} e f = record { size = f .size ∙ e .size; mark = λ a b p. f .mark a b p ∙ ap (λ (z : Bool). z or one-edge t u a b) (e .mark a b p) ∙ sym (or-assoc (in-row m b a) _ _) }
@@ -117,20 +107,6 @@ pub told-committed : {log part : List ℕ} → Committed log part → {r : Bool}
 told-committed {log} marks e f = e ∙ marks .mark _ ∙ ap (committed log) f
 
 -- WHAT IS SHOWN
--- what `sort` gives, in the words of the verdicts
-pub sorted : {m part : List ℕ} {s : Shown} → Sorts transactions m part s → {r : Witnessed} → r .answer ≡ answer-of (s .shape) (s .count) → r .list ≡ s .list
-    → Showing (takes-part transactions part) (joined transactions m part) r
-sorted {s} t e l = record { shape = s .shape; shown = t .members; right = t .right; says = e ∙ ap (answer-of (s .shape)) (t .counted); listed = l ∙ t .listed }
-
--- what is shown of the graph of a log
-graph-holds : {log : List ℕ} {edge : ℕ → ℕ → Bool} {r : Witnessed} → Showing (committed log) edge r → Holds (OfGraph transactions log edge) r
-unfolding said members answer-of
-graph-holds {log} {edge} {r} s = go (s .shape) (s .right) (s .says)
-  where
-    go : (shape : Shape) → Shows (suc transactions) (committed log) edge shape (s .shown) → r .answer ≡ answer-of shape (length (s .shown)) → Holds (OfGraph transactions log edge) r
-    go shapes.Order right says = record { outcome = order (s .shown); right = shows-order right; says = says; listed = s .listed }
-    go shapes.Cycle right says = record { outcome = cycle (s .shown); right = shows-cycle right; says = says; listed = s .listed }
-
 -- the edges join different committed transactions
 pub record Between (log : List ℕ) (edge : ℕ → ℕ → Bool) : Type 0 where
   pub differ : (a b : ℕ) → edge a b ≡ true → a ≡ b → ⊥
@@ -163,8 +139,9 @@ module _ {log m part : List ℕ} {edge : ℕ → ℕ → Bool} (marks : Committe
           let n : a ≡ b → ⊥ = between .differ a b h in
           joined-by-row m part a b n p q (drawn .mark a b (n, u .0, u .1, v .0, v .1) ∙ h)
 
-  pub shown-of : {r : Witnessed} → Showing (takes-part transactions part) (joined transactions m part) r → Holds (OfGraph transactions log edge) r
-  shown-of s = graph-holds (rw (same-nodes, fun-ext (λ a. fun-ext (same-joined a))) at s)
+  -- what `sort` gives is what is shown of the graph
+  pub shown-of : {s : Shown} (t : Sorts transactions m part s) → Shows (suc transactions) (committed log) edge (s .shape) (t .members)
+  shown-of t = rw (same-nodes, fun-ext (λ a. fun-ext (same-joined a))) at (t .right)
 
   -- the orders of the matrix are those of the graph
   pub order-of : (w : List ℕ) → matrix-order transactions m part w ≡ is-order (suc transactions) (committed log) edge w

@@ -1,36 +1,39 @@
 -- "Next": the explaining orders of a clean log are the orders of its version graph, so the first later one of the graph is the answer.
-use mathlib.Core.Path.{_≡_, refl, sym, ap, subst, fun-ext, _∙_}
+use mathlib.Core.Path.{_≡_, sym, ap, subst, fun-ext, _∙_}
 use mathlib.Core.Bool.{Bool, true, false}
 use mathlib.Core.List.{List}
 use mathlib.Core.Option.{Option, some as just}
 use Prim.Native.Nat.{ℕ, suc}
 use native.Mathlib.Omega.{arith}
-use lib.ListN.{length}
-use Rattle.words.specs.Lists.{entries}
+use lib.ListN.{take}
+use Rattle.words.specs.Lists.{zeros}
 use Rattle.words.specs.First.{dictionary, First, Never, later}
 use Rattle.graph.specs.Matrix.{Earliest, earliest, not-any, matrix-order, is-some, later-members, Follows}
 use Rattle.graph.specs.Order.{is-order}
 use Rattle.graph.specs.declared.Later.{Later}
 use Rattle.words.proofs.Truth.{same-test, not-both, and→, →and}
-use Rattle.verdict.specs.Limits.{transactions}
+use Rattle.verdict.specs.Limits.{transactions, witness-buffer}
 use Rattle.verdict.specs.Log.{committed}
 use Rattle.verdict.specs.Refusal.{log-refusal}
 use Rattle.verdict.specs.Clean.{is-clean}
-use Rattle.verdict.specs.Outcome.{Outcome, order, said, members}
+use Rattle.verdict.specs.Outcome.{Outcome, order}
 use Rattle.verdict.specs.Judgement.{Holds}
 use Rattle.verdict.specs.Version.{version-edge}
 use Rattle.verdict.specs.Replay.{serial, explains}
 use Rattle.verdict.specs.Next.{Next, next, next-none, up-to-zero, list-refusal}
 use Rattle.verdict.specs.Inner.Marks.{Committed}
 use Rattle.verdict.specs.Inner.Edges.{Drawn}
+use Rattle.verdict.specs.Inner.Reasons.{by-value}
 use Rattle.verdict.specs.Inner.Following.{LaterOrder, later-order, none-later, Brings, Comes, not-listed, follows}
 use Rattle.verdict.specs.declared.answers.Checked.the-variants.{Passed, Refused}
-use Rattle.verdict.specs.declared.answers.Answer.the-variants.{Order, None}
+use Rattle.verdict.specs.declared.answers.Answer.the-variants.{None}
 use Rattle.verdict.specs.declared.answers.Witnessed.{Witnessed}
 use Rattle.verdict.specs.declared.following.Following.{Following}
 use Rattle.verdict.proofs.WellFormed.{Well, well-formed}
 use Rattle.verdict.proofs.Computed.{explains-serial}
 use Rattle.verdict.proofs.Center.{centre}
+use Rattle.verdict.proofs.Memberless.{holds-none}
+use Rattle.verdict.proofs.Threes.{held}
 use Rattle.verdict.proofs.Matrices.{order-of}
 use Rattle.verdict.proofs.VersionGraph.{version-between}
 
@@ -60,23 +63,22 @@ module _ (log : List ℕ) (well : log-refusal log ≡ Passed) (clean : is-clean 
 
 -- what the graph finds, as an answer
 module _ {m part v : List ℕ} {r : Later} (f : Follows transactions m part v r) where
-  pub brings-order : r .found ≡ true → Brings m part v (record { answer = Order (r .count); list = r .list })
-  unfolding is-some later-members said members
-  brings-order h = go (f .earliest) (f .right) (f .told) (f .listed) (f .counted)
+  pub brings-order : r .found ≡ true → (later-members (f .earliest) ≡ take (r .count) (r .list)) → {found : Witnessed} → found ≡ by-value (order (take (r .count) (r .list))) → Brings m part v found
+  unfolding is-some later-members
+  brings-order h same e = held (order (take (r .count) (r .list))) (go (f .earliest) (f .right) (f .told) same) e
     where
-      go : (o : Option (List ℕ)) → Earliest (later (matrix-order transactions m part) v) o → r .found ≡ is-some o → r .list ≡ entries transactions (later-members o)
-          → r .count ≡ length (later-members o) → Brings m part v (record { answer = Order (r .count); list = r .list })
-      go (just w) (earliest g) t l n = record { outcome = order w; right = later-order g; says = ap Order n; listed = l }
-      go Option.none g t l n = absurd (not-both h t)
+      go : (o : Option (List ℕ)) → Earliest (later (matrix-order transactions m part) v) o → r .found ≡ is-some o → later-members o ≡ take (r .count) (r .list)
+          → LaterOrder m part v (order (take (r .count) (r .list)))
+      go (just w) (earliest g) t s = rw (← s) (later-order g)
+      go Option.none g t s = absurd (not-both h t)
 
-  pub brings-none : r .found ≡ false → Brings m part v (record { answer = None; list = r .list })
-  unfolding is-some later-members said members
-  brings-none h = go (f .earliest) (f .right) (f .told) (f .listed)
+  pub brings-none : r .found ≡ false → {found : Witnessed} → (found .answer ≡ None) × (found .list ≡ zeros witness-buffer) → Brings m part v found
+  unfolding is-some
+  brings-none h = holds-none (go (f .earliest) (f .right) (f .told))
     where
-      go : (o : Option (List ℕ)) → Earliest (later (matrix-order transactions m part) v) o → r .found ≡ is-some o → r .list ≡ entries transactions (later-members o)
-          → Brings m part v (record { answer = None; list = r .list })
-      go (just w) g t l = absurd (not-both t h)
-      go Option.none (not-any g) t l = record { outcome = Outcome.none; right = none-later g; says = refl; listed = l }
+      go : (o : Option (List ℕ)) → Earliest (later (matrix-order transactions m part) v) o → r .found ≡ is-some o → LaterOrder m part v Outcome.none
+      go (just w) g t = absurd (not-both t h)
+      go Option.none (not-any g) t = none-later g
 
 -- what comes after an order, from whether it was turned away
 module _ {log handed-in : List ℕ} {f : Following} where

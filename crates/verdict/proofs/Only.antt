@@ -5,9 +5,11 @@ use mathlib.Core.List.{List, [], _∷_}
 use Prim.Native.Nat.{ℕ}
 use native.Mathlib.Omega.{arith}
 use Rattle.words.specs.First.{dictionary, First}
-use Rattle.words.specs.Lists.{zeros, entries}
-use Rattle.verdict.specs.Limits.{transactions}
-use Rattle.verdict.specs.Outcome.{Outcome, order, cycle, unclean, said, members, OfGraph, shows-order, shows-cycle}
+use Rattle.words.specs.Lists.{zeros}
+use Rattle.verdict.specs.Limits.{witness-buffer}
+use Rattle.verdict.specs.Outcome.{Outcome, order, cycle, unclean, said, OfGraph, shows-order, shows-cycle}
+use Rattle.verdict.specs.Reason.{with-reasons}
+use Rattle.verdict.specs.Witness.{witness}
 use Rattle.verdict.specs.Judgement.{Holds, ExactIs, over, searched, refused-alone, JudgeAnswer, refused, judged}
 use Rattle.verdict.specs.declared.answers.Witnessed.{Witnessed}
 use Rattle.verdict.specs.declared.answers.Exactness.the-variants.{Over, Searched}
@@ -50,11 +52,11 @@ loosely-clean most log f c = clean≢unclean (clean-cleanness log (and→ (and�
 
 module _ {most : ℕ} {log : List ℕ} where
   -- what is shown of a graph is one
-  graph-one : {edge : ℕ → ℕ → Bool} {a b : Outcome} → OfGraph most log edge a → OfGraph most log edge b → a ≡ b
+  graph-one : {edge : ℕ → ℕ → Bool} {on : ℕ → ℕ → ℕ → ℕ → Bool} {a b : Outcome} → OfGraph most log edge on a → OfGraph most log edge on b → a ≡ b
   graph-one (shows-order s) (shows-order t) = ap order (shows-one s t .1)
   graph-one (shows-order s) (shows-cycle t) = absurd (order≢cycle (shows-one s t .0))
   graph-one (shows-cycle s) (shows-order t) = absurd (order≢cycle (sym (shows-one s t .0)))
-  graph-one (shows-cycle s) (shows-cycle t) = ap cycle (shows-one s t .1)
+  graph-one {on} (shows-cycle s) (shows-cycle t) = ap (λ (c : List ℕ). cycle (with-reasons on c)) (shows-one s t .1)
 
   pub conflict-one : {a b : Outcome} → Conflict most log a → Conflict most log b → a ≡ b
   conflict-one = graph-one
@@ -90,12 +92,12 @@ same-witnessed a b p q = λ i. record { answer = p i; list = q i }
 pub holds-one : {verdict : Outcome → Type 0} → ((o u : Outcome) → verdict o → verdict u → o ≡ u) → {a b : Witnessed} → Holds verdict a → Holds verdict b → a ≡ b
 holds-one one {a} {b} h k =
     let e : h .outcome ≡ k .outcome = one _ _ (h .right) (k .right) in
-    same-witnessed a b (h .says ∙ ap said e ∙ sym (k .says)) (h .listed ∙ ap (λ (o : Outcome). entries transactions (members o)) e ∙ sym (k .listed))
+    same-witnessed a b (h .says ∙ ap said e ∙ sym (k .says)) (h .listed ∙ ap witness e ∙ sym (k .listed))
 
 exact-is-one : (log : List ℕ) (e f : ExactWitnessed) → ExactIs log e → ExactIs log f → e ≡ f
 exact-is-one log e f (over n s x) (over m t y) =
     let z : n ≡ m = cc in
-    x ∙ ap (λ (k : ℕ). record { exactness = Over k; list = zeros transactions }) z ∙ sym y
+    x ∙ ap (λ (k : ℕ). record { exactness = Over k; list = zeros witness-buffer }) z ∙ sym y
 exact-is-one log e f (over n s x) (searched a t y h) = let z : _≡_ {A = ℕ} 0 1 = cc in absurd (omega arith)
 exact-is-one log e f (searched a s x h) (over m t y) = let z : _≡_ {A = ℕ} 0 1 = cc in absurd (omega arith)
 exact-is-one log e f (searched a s x h) (searched b t y k) =

@@ -11,6 +11,7 @@ use Rattle.words.specs.First.{dictionary, shorter, later}
 use Rattle.words.specs.Listed.{Listed}
 use Rattle.graph.specs.Order.{once-each, keeps, is-order}
 use Rattle.graph.specs.Cycle.{leads, is-cycle}
+use Rattle.verdict.specs.Reason.{Entry, first-object, first-kind, leading, leading-on, with-reasons}
 use Rattle.verdict.specs.Outcome.{order, cycle, Outcome, unclean}
 use Rattle.verdict.specs.Limits.{transactions}
 use Rattle.verdict.specs.Log.{steps, kind, tx, obj, src, begins, reads, writes, commits, aborts, committed, aborted, writer, write-one-object, begin-step, commit-step, commits-writer, committed-count, begun, ended, wrote}
@@ -28,8 +29,8 @@ use Rattle.verdict.specs.declared.answers.Snapshot.the-variants as snaps
 use Rattle.verdict.specs.declared.answers.Snapshot.the-variants.{Read, Write}
 use Rattle.verdict.specs.Snapshot.{writer-number, snapshot-step, last-commit, last-committed, wanted, wrong-read, overlap, clash, wrong-commit, wrong-step, snapshot-fault, snapshot-verdict}
 use Rattle.verdict.specs.Inner.ConflictEdges.{touches, meet-somehow, plain-conflict}
-use Rattle.verdict.specs.Conflict.{Conflict}
-use Rattle.verdict.specs.Version.{versions-from, next-commit, next-version, Version}
+use Rattle.verdict.specs.Conflict.{meet, conflict-on, Conflict}
+use Rattle.verdict.specs.Version.{versions-from, next-commit, next-version, writer-to-next, source-to-reader, reader-to-next, version-on, Version}
 use Rattle.verdict.specs.Inner.VersionEdges.{from-writer, from-source, from-reader, plain-version}
 use Rattle.verdict.specs.Replay.{finds, reads-right, writers-in-order, serial, explains-loosely, explains}
 use Rattle.verdict.specs.Exact.{Exact}
@@ -97,8 +98,21 @@ sample l g o = record { log = l; handed-in = g; expected = o }
 ordered : List ℕ → Option Outcome
 ordered l = just (order l)
 
-ring : List ℕ → Option Outcome
-ring l = just (cycle l)
+-- a cycle of two, each with the kind and the object that lead on
+abbrev pub led : ℕ → ℕ → ℕ → Entry
+led t k o = record { transaction = t; kind = k; object = o }
+
+ring : Entry → Entry → Option Outcome
+ring d e = just (cycle (d ∷ e ∷ []))
+
+abbrev ww : ℕ
+ww = 1
+
+abbrev wr : ℕ
+wr = 2
+
+abbrev rw′ : ℕ
+rw′ = 3
 
 no-order : Option Outcome
 no-order = just Outcome.none
@@ -134,22 +148,25 @@ table =
     (answered Yes snapshot-is.Yes (ordered []) (ordered []) (order []) ([] ∷ []) ([] ∷ []) (no-order ∷ none ∷ []))
     -- the log that 01 prints
     ∷ sample (b 1 (b 2 (r 1 y 0 (r 2 x 0 (w 1 x (w 2 y (c 1 (c 2 [])))))))) ([] ∷ 12′ ∷ [])
-    (answered Yes snapshot-is.Yes (ring 12′) (ring 12′) Outcome.none [] [] (none ∷ none ∷ []))
+    (answered Yes snapshot-is.Yes (ring (led 1 rw′ y) (led 2 rw′ x)) (ring (led 1 rw′ y) (led 2 rw′ x)) Outcome.none [] [] (none ∷ none ∷ []))
     -- example 2.12
     ∷ sample (b 1 (w 1 x (c 1 (b 2 (w 2 x (c 2 (b 3 (r 3 x 1 (c 3 []))))))))) (132′ ∷ 123′ ∷ 213′ ∷ (1 ∷ 3 ∷ 2 ∷ 0 ∷ 5 ∷ []) ∷ [] ∷ [])
     (answered Yes (Read 7 (Committed 2 5)) (ordered 123′) (ordered 132′) (order 132′) (132′ ∷ []) (132′ ∷ 213′ ∷ []) (no-order ∷ none ∷ none ∷ none ∷ none ∷ []))
     -- example 2.13
     ∷ sample (b 1 (w 1 x (w 1 y (c 1 (b 2 (w 2 x (w 2 y (c 2 (b 3 (r 3 x 2 (r 3 y 1 (c 3 [])))))))))))) (123′ ∷ [])
-    (answered Yes (Read 10 (Committed 2 7)) (ordered 123′) (ring (2 ∷ 3 ∷ [])) Outcome.none [] [] (none ∷ []))
+    (answered Yes (Read 10 (Committed 2 7)) (ordered 123′) (ring (led 2 wr x) (led 3 rw′ y)) Outcome.none [] [] (none ∷ []))
     -- a lost update
     ∷ sample (b 1 (b 2 (r 1 x 0 (r 2 x 0 (w 1 x (w 2 x (c 1 (c 2 [])))))))) []
-    (answered Yes (Write 7 1) (ring 12′) (ring 12′) Outcome.none [] [] [])
+    (answered Yes (Write 7 1) (ring (led 1 ww x) (led 2 rw′ x)) (ring (led 1 ww x) (led 2 rw′ x)) Outcome.none [] [] [])
+    -- ours: of two dependencies the one on the lower object, whatever their kinds
+    ∷ sample (b 1 (b 2 (r 2 2 0 (w 1 2 (w 1 x (w 1 y (r 2 x 1 (w 2 y (c 1 (c 2 [])))))))))) []
+    (answered Yes (Read 6 Store) (ring (led 1 wr x) (led 2 rw′ 2)) (ring (led 1 wr x) (led 2 rw′ 2)) Outcome.none [] [] [])
     -- a read from a transaction that aborts
     ∷ sample (b 1 (w 1 x (b 2 (r 2 x 1 (c 2 (a 1 [])))))) ((2 ∷ []) ∷ [])
     (answered (Unclean (Aborted 3)) (Read 3 Store) (ordered (2 ∷ [])) (fault (Aborted 3)) (unclean (Aborted 3)) [] [] (none ∷ []))
     -- a read of a value that is overwritten
     ∷ sample (b 1 (w 1 x (b 2 (r 2 x 1 (w 1 x (c 1 (c 2 []))))))) []
-    (answered (Unclean (Unfinal 3)) (Read 3 Store) (ring 12′) (fault (Unfinal 3)) (unclean (Unfinal 3)) [] [] [])
+    (answered (Unclean (Unfinal 3)) (Read 3 Store) (ring (led 1 wr x) (led 2 rw′ x)) (fault (Unfinal 3)) (unclean (Unfinal 3)) [] [] [])
     -- three orders
     ∷ sample (b 1 (w 1 x (c 1 (b 2 (r 2 x 1 (c 2 (b 3 (w 3 y (c 3 []))))))))) (123′ ∷ 132′ ∷ 312′ ∷ 213′ ∷ [])
     (answered Yes snapshot-is.Yes (ordered 123′) (ordered 123′) (order 123′) (123′ ∷ 132′ ∷ 312′ ∷ []) (123′ ∷ 132′ ∷ 312′ ∷ []) (ordered 132′ ∷ ordered 312′ ∷ no-order ∷ none ∷ []))
@@ -183,6 +200,7 @@ unfolding b r w c a sample ordered ring no-order fault 1′ 12′ 21′ 123′ 1
     judged judged-other after-own-write writes-later final-source own-fault source-fault faulty-read is-clean fault-at cleanness
     writer-number snapshot-step last-commit last-committed wanted wrong-read overlap clash wrong-commit wrong-step snapshot-fault snapshot-verdict
     touches meet-somehow plain-conflict versions-from next-commit next-version from-writer from-source from-reader plain-version
+    meet conflict-on writer-to-next source-to-reader reader-to-next version-on first-object first-kind leading leading-on with-reasons
     finds reads-right writers-in-order serial explains-loosely explains up-to-zero from-zero list-refusal
     ascending put-before each-before tuples short-tuples sift shown-by nodes judge-graph
     first-or-none outcome-of outcome-shown if-clean orders judge-conflict judge-version judge-exact judge-next
@@ -256,6 +274,6 @@ next-means log given n e = go (list-refusal transactions log given) refl e
 -- the log that 01 prints, entry 1 of the table, for whoever prints its report
 pub printed-means :
     Means (1 ∷ 1 ∷ 0 ∷ 0 ∷ 1 ∷ 2 ∷ 0 ∷ 0 ∷ 2 ∷ 1 ∷ 1 ∷ 0 ∷ 2 ∷ 2 ∷ 0 ∷ 0 ∷ 3 ∷ 1 ∷ 0 ∷ 0 ∷ 3 ∷ 2 ∷ 1 ∷ 0 ∷ 4 ∷ 1 ∷ 0 ∷ 0 ∷ 4 ∷ 2 ∷ 0 ∷ 0 ∷ [])
-    Yes snapshot-is.Yes (cycle (1 ∷ 2 ∷ [])) (cycle (1 ∷ 2 ∷ [])) Outcome.none [] []
-unfolding table sample b r w c ring 12′
+    Yes snapshot-is.Yes (cycle (led 1 3 1 ∷ led 2 3 0 ∷ [])) (cycle (led 1 3 1 ∷ led 2 3 0 ∷ [])) Outcome.none [] []
+unfolding table sample b r w c ring
 printed-means = outcome-means (getD table 1 no-sample) (sample-right 1)

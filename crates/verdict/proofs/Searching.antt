@@ -2,22 +2,22 @@
 use mathlib.Core.Path.{_≡_, refl, sym, ap, subst, _∙_}
 use mathlib.Core.Bool.{Bool, true, false, false≢true}
 use mathlib.Core.Logic.{_⊎_, inl, inr}
-use mathlib.Core.List.{List, [], _∷_, _++_}
-use Prim.Native.Nat.{ℕ, zero, suc, _+_, _-_, _≤_, _<_}
+use mathlib.Core.List.{List, []}
+use Prim.Native.Nat.{ℕ, zero, suc, _≤_, _<_}
 use native.Mathlib.Omega.{arith}
-use lib.ListN.{length, getD, set, take, replicate, length-replicate, getD-replicate}
-use lib.Seq.{length-take-le, take-suc}
+use lib.ListN.{take, replicate, length-replicate, getD-replicate}
 use lib.Pow.{pow-pos}
-use native.Mathlib.Numerals.{add-one}
 use Rattle.words.specs.Tests.{_below_, count}
 use Rattle.words.specs.Lists.{member, all, distinct, zeros, entries}
 use Rattle.words.specs.First.{dictionary, First}
+use Rattle.verdict.specs.Reason.{without-reasons}
 use Rattle.verdict.specs.Outcome.{order, none, said, members}
+use Rattle.verdict.specs.Witness.{in-threes, witness}
 use Rattle.verdict.specs.Judgement.{Holds}
 use Rattle.words.proofs.Truth.{decide, →fails, →below, →not-below, not-below→, if-true}
 use Rattle.bits.specs.Word.{marked}
 use Rattle.bits.proofs.Marks.{mark-not, no-mark}
-use Rattle.verdict.specs.Limits.{transactions, most-searched}
+use Rattle.verdict.specs.Limits.{transactions, witness-buffer, most-searched}
 use Rattle.verdict.specs.Log.{committed-count}
 use Rattle.verdict.specs.declared.answers.Checked.the-variants.{Passed, Refused}
 use Rattle.verdict.specs.Refusal.{log-refusal, search-refusal}
@@ -58,8 +58,8 @@ nothing-placed log ones {n} few =
     every-place i h = mark-not 8 0 i (pow-pos 8) h ∙ →fails (no-mark i)
 
 -- nobody committed: the empty order is the only one
-pub nobody-placed : {log ones : List ℕ} → log-refusal log ≡ Passed → is-clean log ≡ true → CommittedList log ones 0 → {r : Witnessed} → (r .answer ≡ Order 0) × (r .list ≡ zeros 128) → Holds (Exact transactions log) r
-unfolding said members entries zeros dictionary
+pub nobody-placed : {log ones : List ℕ} → log-refusal log ≡ Passed → is-clean log ≡ true → CommittedList log ones 0 → {r : Witnessed} → (r .answer ≡ Order 0) × (r .list ≡ zeros witness-buffer) → Holds (Exact transactions log) r
+unfolding said members without-reasons in-threes witness entries zeros dictionary
 nobody-placed {log} {ones} well clean list e =
     record {
       outcome = order [];
@@ -69,16 +69,8 @@ nobody-placed {log} {ones} well clean list e =
     }
 
 -- what is found is the answer
-pub order-found : (log : List ℕ) (n : ℕ) (array list : List ℕ) → n ≤ length array → Searched log [] n true array → list ≡ entries transactions (take n array)
-    → Holds (Exact transactions log) (record { answer = Order n; list = list })
-unfolding said members
-order-found log n array list h (found u f e) l =
-    record {
-      outcome = order (take n array);
-      right = exact (subst (First dictionary (explains-loosely transactions log)) (sym e) f);
-      says = ap Order (sym (length-take-le n array h));
-      listed = l;
-    }
+pub order-found : (log : List ℕ) (n : ℕ) (array : List ℕ) → Searched log [] n true array → Exact transactions log (order (take n array))
+order-found log n array (found u f e) = exact (subst (First dictionary (explains-loosely transactions log)) (sym e) f)
 
 pub none-found : (log : List ℕ) (n : ℕ) (array : List ℕ) → is-clean log ≡ true → Searched log [] n false array → Exact transactions log none
 none-found log n array c (missed g) = exact-none (clean-cleanness log c) g
@@ -107,26 +99,3 @@ search-13 log {n} {p} e = go (decide (most-searched below committed-count log))
 pub search-few : (log : List ℕ) → search-refusal log ≡ Passed → committed-count log ≤ most-searched
 unfolding search-refusal
 search-few log e = not-below→ (when→ 13 (committed-count log) _ e)
-
--- a list written into an empty buffer, one entry more
-pub put-entry : (n : ℕ) (w : List ℕ) (v : ℕ) → length w < n → set (entries n w) (length w) v ≡ entries n (w ++ v ∷ [])
-unfolding entries zeros
-put-entry n w v h =
-    let e : n - length w ≡ suc (n - suc (length w)) = omega arith in
-    let f : n - length (w ++ v ∷ []) ≡ n - suc (length w) = let l : length (w ++ v ∷ []) ≡ suc (length w) = more w in omega arith in
-    rw (e, f) (put w (n - suc (length w)))
-  where
-    more : (w : List ℕ) → length (w ++ v ∷ []) ≡ suc (length w)
-    more [] = refl
-    more (a ∷ w) = ap suc (more w)
-
-    put : (w : List ℕ) (k : ℕ) → set (w ++ replicate (suc k) 0) (length w) v ≡ (w ++ v ∷ []) ++ replicate k 0
-    put [] k = refl
-    put (a ∷ w) k = ap (λ (l : List ℕ). a ∷ l) (put w k)
-
--- the first i of an array, and one more
-pub put-next : (n i : ℕ) (array : List ℕ) → i < length array → length array ≤ n → set (entries n (take i array)) i (getD array i 0) ≡ entries n (take (i + 1) array)
-put-next n i array h k =
-    let e : length (take i array) ≡ i = length-take-le i array (omega arith) in
-    rw (add-one i, take-suc array i 0 h)
-    (subst (λ (j : ℕ). set (entries n (take i array)) j (getD array i 0) ≡ entries n (take i array ++ getD array i 0 ∷ [])) e (put-entry n (take i array) (getD array i 0) (omega arith)))

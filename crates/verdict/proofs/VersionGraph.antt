@@ -6,22 +6,16 @@ use mathlib.Core.List.{List}
 use Prim.Native.Nat.{ℕ, suc, _≤_, _<_}
 use native.Mathlib.Omega.{arith}
 use Rattle.words.specs.Tests.{_is_, _below_, _and_, _or_, some}
-use Rattle.graph.specs.Matrix.{takes-part, joined}
 use Rattle.words.proofs.Truth.{decide, to-false, same-test, and→, →and, and-true, and-no-left, and-no-right, or→, →or-left, →or-right, or-no, or-false, →fails, fails→, is→, isnt→, →is, →isnt, below→, if-true, if-false, some→, →some}
 use Rattle.verdict.specs.Limits.{transactions}
 use Rattle.verdict.specs.Log.{steps, kind, tx, obj, src, reads, committed}
-use Rattle.verdict.specs.declared.answers.Cleanness.the-variants.{Yes}
-use Rattle.verdict.specs.Clean.{cleanness, judged, is-clean}
-use Rattle.verdict.specs.Judgement.{Holds}
-use Rattle.verdict.specs.Version.{next-commit, next-version, version-edge, Version, version}
-use Rattle.verdict.specs.declared.answers.Witnessed.{Witnessed}
+use Rattle.verdict.specs.Clean.{judged, is-clean}
+use Rattle.verdict.specs.Version.{next-commit, next-version, version-edge}
 use Rattle.verdict.specs.Inner.VersionEdges.{from-writer, from-source, from-reader, plain-version, next-writer, write-edges, read-edges, version-step, versions-until}
-use Rattle.verdict.specs.Inner.Edges.{one-edge, EdgesAdded, Drawn, Showing}
-use Rattle.verdict.specs.Inner.Marks.{Committed}
+use Rattle.verdict.specs.Inner.Edges.{one-edge, EdgesAdded, Drawn}
 use Rattle.verdict.proofs.WellFormed.{Well}
-use Rattle.verdict.proofs.Cleanly.{cleanness-clean}
 use Rattle.verdict.proofs.Dependencies.{plain-version-edge, version-leaves, version-enters}
-use Rattle.verdict.proofs.Matrices.{Kept, one-edge→, →one-edge, same-edges, edges-more, Between, shown-of}
+use Rattle.verdict.proofs.Matrices.{Kept, one-edge→, →one-edge, same-edges, edges-more, Between}
 
 -- THE WRITER OF THE NEXT VERSION
 module _ (log : List ℕ) (x v : ℕ) where
@@ -154,7 +148,6 @@ module _ {most : ℕ} (log : List ℕ) (well : Well most log) where
   all-versions a b =
       same-test (λ h. let r = some→ h in step-edge log a b (r .0) (r .1) (r .2)) (λ h. let r = edge-step log a b h in →some _ (r .0) (r .1) (r .2)) ∙ sym (plain-version-edge log well a b)
 
--- what is shown of the matrix is the verdict's answer
 pub version-between : {most : ℕ} (log : List ℕ) → Well most log → is-clean log ≡ true → Between log (version-edge log)
 unfolding version-edge
 version-between log well clean =
@@ -163,9 +156,3 @@ version-between log well clean =
       from = λ a b h. version-leaves log well a b h clean;
       to = λ a b h. version-enters log well a b h;
     }
-
-pub version-holds : {log m part : List ℕ} {r : Witnessed} → Well transactions log → cleanness log ≡ Yes → Committed log part → Drawn (version-edge log) m
-    → Showing (takes-part transactions part) (joined transactions m part) r → Holds (Version transactions log) r
-version-holds {log} well e marks drawn s =
-    let h = shown-of marks drawn (version-between log well (cleanness-clean log e)) s in
-    record { outcome = h .outcome; right = version e (h .right); says = h .says; listed = h .listed }

@@ -25,4 +25,4 @@ module _ (log : List ℕ) where
   conflict-edge a b = fails (a is b) and committed log a and committed log b and some-dependency (conflict-on a b)
 
 abbrev pub Conflict : (most : ℕ) (log : List ℕ) → Outcome → Type 0
-Conflict most log = OfGraph most log (conflict-edge log)
+Conflict most log = OfGraph most log (conflict-edge log) (conflict-on log)

@@ -10,6 +10,9 @@ pub mod Edges
 pub mod ConflictEdges
 pub mod VersionEdges
 pub mod NextWriters
+pub mod Reasons
+pub mod ConflictReasons
+pub mod VersionReasons
 pub mod Leaving
 pub mod Following
 pub mod Placing

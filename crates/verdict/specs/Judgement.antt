@@ -2,27 +2,28 @@
 use mathlib.Core.Path.{_≡_}
 use mathlib.Core.List.{List}
 use Prim.Native.Nat.{ℕ}
-use Rattle.words.specs.Lists.{zeros, entries}
-use Rattle.verdict.specs.Limits.{transactions}
+use Rattle.words.specs.Lists.{zeros}
+use Rattle.verdict.specs.Limits.{transactions, witness-buffer}
 use Rattle.verdict.specs.Refusal.{log-refusal, search-refusal}
 use Rattle.verdict.specs.Clean.{cleanness}
 use Rattle.verdict.specs.Snapshot.{snapshot-verdict}
-use Rattle.verdict.specs.Outcome.{Outcome, said, members}
+use Rattle.verdict.specs.Outcome.{Outcome, said}
+use Rattle.verdict.specs.Witness.{witness}
 use Rattle.verdict.specs.Conflict.{Conflict}
 use Rattle.verdict.specs.Version.{Version}
 use Rattle.verdict.specs.Exact.{Exact}
 use Rattle.verdict.specs.Answers.{Passed, Refused, Cleanness, Snapshot, Answer, None, Over, Searched, Witnessed, ExactWitnessed, Judgement}
 
--- an answer by value that the verdict allows: the members stand first in its list, and the remaining entries are 0
+-- an answer by value that the verdict allows: its list is the witness
 pub record Holds (verdict : Outcome → Type 0) (a : Witnessed) : Type 0 where
   pub outcome : Outcome
   pub right : verdict outcome
   pub says : a .answer ≡ said outcome
-  pub listed : a .list ≡ entries transactions (members outcome)
+  pub listed : a .list ≡ witness outcome
 
 -- the exact verdict: over where number 13 applies, and else its answer
 pub data ExactIs (log : List ℕ) (e : ExactWitnessed) : Type 0 where
-  over : (n : ℕ) → search-refusal log ≡ Refused 13 n → e ≡ record { exactness = Over n; list = zeros transactions } → ExactIs log e
+  over : (n : ℕ) → search-refusal log ≡ Refused 13 n → e ≡ record { exactness = Over n; list = zeros witness-buffer } → ExactIs log e
   searched : (a : Answer) → search-refusal log ≡ Passed → e .exactness ≡ Searched a → Holds (Exact transactions log) (record { answer = a; list = e .list })
       → ExactIs log e
 
@@ -42,9 +43,9 @@ refused-alone number place =
       checked = Refused number place;
       clean = Cleanness.Yes;
       snapshot = Snapshot.Yes;
-      conflict = record { answer = None; list = zeros transactions };
-      version = record { answer = None; list = zeros transactions };
-      exact = record { exactness = Searched None; list = zeros transactions };
+      conflict = record { answer = None; list = zeros witness-buffer };
+      version = record { answer = None; list = zeros witness-buffer };
+      exact = record { exactness = Searched None; list = zeros witness-buffer };
     }
 
 pub data JudgeAnswer (log : List ℕ) (j : Judgement) : Type 0 where

@@ -6,6 +6,7 @@ pub mod Refusal
 pub mod Clean
 pub mod Snapshot
 pub mod Dependency
+pub mod Reason
 pub mod Outcome
 pub mod Conflict
 pub mod Version

@@ -17,9 +17,9 @@ objects = 64
 abbrev pub most-steps : ℕ
 most-steps = 1024
 
--- a witness buffer has an entry for each transaction, the order handed to "next" too, and the work area has 16,384 bytes
-abbrev pub witness-entries : ℕ
-witness-entries = transactions
+-- a witness buffer has 128 entries of three numbers, the order handed to "next" 128 plain numbers, and the work area 16,384 bytes
+abbrev pub witness-buffer : ℕ
+witness-buffer = 384
 
 abbrev pub order-entries : ℕ
 order-entries = transactions

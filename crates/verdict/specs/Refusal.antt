@@ -4,7 +4,7 @@ use mathlib.Core.List.{List}
 use Prim.Native.Nat.{ℕ, zero, suc, _%_}
 use lib.ListN.{length}
 use Rattle.words.specs.Tests.{_is_, _below_, _upto_, _and_, _or_, fails, if_then_else_}
-use Rattle.verdict.specs.Limits.{transactions, objects, most-steps, witness-entries, order-entries, work-bytes, most-searched}
+use Rattle.verdict.specs.Limits.{transactions, objects, most-steps, witness-buffer, order-entries, work-bytes, most-searched}
 use Rattle.verdict.specs.Log.{steps, kind, tx, obj, src, begun, ended, wrote, committed-count}
 use Rattle.verdict.specs.Answers.{Checked, Passed, Refused}
 
@@ -80,7 +80,7 @@ unfoldable pub work-refusal : List ℕ → Checked
 work-refusal work = 12 at 0 when fails (length work is work-bytes)
 
 unfoldable pub witness-refusal : List ℕ → Checked
-witness-refusal witness = 12 at 0 when fails (length witness is witness-entries)
+witness-refusal witness = 12 at 0 when fails (length witness is witness-buffer)
 
 -- .. or the order handed to "next"
 unfoldable pub order-refusal : List ℕ → Checked

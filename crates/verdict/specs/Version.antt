@@ -47,5 +47,5 @@ module _ (log : List ℕ) where
   version-edge a b = fails (a is b) and fails (a is 0) and fails (b is 0) and some-dependency (version-on a b)
 
 pub data Version (most : ℕ) (log : List ℕ) : Outcome → Type 0 where
-  version : {a : Outcome} → cleanness log ≡ Cleanness.Yes → OfGraph most log (version-edge log) a → Version most log a
+  version : {a : Outcome} → cleanness log ≡ Cleanness.Yes → OfGraph most log (version-edge log) (version-on log) a → Version most log a
   version-unclean : {f : Fault} → cleanness log ≡ Cleanness.Unclean f → Version most log (unclean f)

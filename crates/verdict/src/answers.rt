@@ -48,16 +48,16 @@ pub enum Exactness {
     Searched(Answer),
 }
 
-// An answer with its members by value: they stand first in the list, with zeros behind them.
+// An answer with its witness by value: the entries of its members stand first in the list, with zeros behind them.
 pub struct Witnessed {
     pub answer: Answer,
-    pub list: [u16; Transaction::COUNT],
+    pub list: [u16; Transaction::WITNESS],
 }
 
-// The exact verdict with the members of its order by value.
+// The exact verdict with its witness by value.
 pub struct ExactWitnessed {
     pub exactness: Exactness,
-    pub list: [u16; Transaction::COUNT],
+    pub list: [u16; Transaction::WITNESS],
 }
 
 // What a call of the clean verdict answers: a refusal with its number and its place, or the verdict.

@@ -2,13 +2,14 @@
 use crate::answers::Checked;
 use crate::answers::WitnessAnswer;
 use crate::answers::Witnessed;
-use crate::edges::show;
+use crate::conflict_reasons::conflict_cycle;
 use crate::edges::takes_part;
+use crate::entries::an_order;
 use crate::leaving::leave;
-use crate::limits::Object;
 use crate::refusal::admit_witness;
 use crate::step::Step;
 use crate::step::step_at;
+use crate::touching::touched_row;
 use crate::walk::index;
 ghost use mathlib.Core.Path.{_≡_};
 ghost use Prim.Native.Nat.{ℕ, _<_};
@@ -20,22 +21,8 @@ ghost use Rattle.verdict.specs.Conflict.{conflict-edge, Conflict};
 ghost use Rattle.verdict.specs.Call.{ConflictCall};
 ghost use Rattle.verdict.specs.Inner.Marks.{Committed};
 ghost use Rattle.verdict.specs.Inner.Edges.{no-edge, Drawn};
-ghost use Rattle.verdict.specs.Inner.ConflictEdges.{touched-row, earlier-touch};
+ghost use Rattle.verdict.specs.Inner.ConflictEdges.{earlier-touch};
 ghost use Rattle.verdict.specs.declared.answers.Checked.the-variants.{Passed};
-
-// Which row has those that touch the object in this way: the readers of an object come first, the writers behind them. No row is for other steps.
-fn touched_row(kind: u16, x: u16) -> usize
-    requires { ⌜ x < objects ⌝ }
-    ensures { λ r. ⌜ r ≡ touched-row kind x ⌝ }
-{
-    if kind == Step::READ {
-        return index(x) + 1;
-    }
-    if kind == Step::WRITE {
-        return index(x) + Object::TABLE + 1;
-    }
-    0
-}
 
 // Those whose earlier steps meet a step of this kind: the writers of the object, and for a write its readers too.
 fn earlier(touched: &[u64; graph::ROWS], kind: u16, x: u16) -> [u64; graph::WORDS]
@@ -79,10 +66,17 @@ pub(crate) fn judge_conflict(log: &[u16], part: [u64; graph::WORDS]) -> Witnesse
 {
     let mut matrix = [0u64; graph::ROWS];
     draw(log, &mut matrix, &part);
-    show(&matrix, part)
+    let found = graph::sort(&matrix, part);
+    let shape = found.shape;
+    let list = found.list;
+    let count = found.count;
+    match shape {
+        graph::Shape::Order => an_order(&list[..count]),
+        graph::Shape::Cycle => conflict_cycle(log, &part, &list[..count]),
+    }
 }
 
-// The conflict verdict: the first order that keeps every edge, or the first shortest cycle.
+// The conflict verdict: the first order that keeps every edge, or the first shortest cycle with its reasons.
 pub fn conflict(log: &[u16], work: &mut [u8], witness: &mut [u16]) -> WitnessAnswer
     ensures { λ r. ⌜ ConflictCall (now (log .entry)) (now (work .entry)) (now (witness .entry)) r (now (work .exit)) (now (witness .exit)) ⌝ }
 {

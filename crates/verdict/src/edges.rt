@@ -1,13 +1,11 @@
-// The edges of a graph of transactions, drawn in rows of marks, and what is shown of that graph.
-use crate::answers::Answer;
-use crate::answers::Witnessed;
+// The edges of a graph of transactions, drawn in rows of marks.
 use crate::walk::index;
 ghost use mathlib.Core.Path.{_≡_};
 ghost use Prim.Native.Nat.{_≤_};
 ghost use lib.ListN.{length};
-ghost use Rattle.graph.specs.Matrix.{takes-part, joined, row-words};
+ghost use Rattle.graph.specs.Matrix.{takes-part, row-words};
 ghost use Rattle.verdict.specs.Limits.{transactions};
-ghost use Rattle.verdict.specs.Inner.Edges.{EdgeAdded, Showing};
+ghost use Rattle.verdict.specs.Inner.Edges.{EdgeAdded};
 
 // Whether t committed, by the marks.
 pub(crate) fn takes_part(part: &[u64; graph::WORDS], t: u16) -> bool
@@ -25,24 +23,4 @@ pub(crate) fn join(matrix: &mut [u64; graph::ROWS], a: u16, b: u16)
 {
     let one = graph::with_vertex([0u64; graph::WORDS], index(a));
     graph::join(matrix, one, index(b));
-}
-
-// The first order or the first shortest cycle of the graph in a matrix.
-pub(crate) fn show(matrix: &[u64; graph::ROWS], part: [u64; graph::WORDS]) -> Witnessed
-    ensures { λ r. ⌜ Showing (takes-part transactions part) (joined transactions (now (matrix .entry)) part) r ⌝ }
-{
-    let found = graph::sort(matrix, part);
-    let shape = found.shape;
-    let list = found.list;
-    let count = found.count;
-    match shape {
-        graph::Shape::Order => Witnessed {
-            answer: Answer::Order(count),
-            list,
-        },
-        graph::Shape::Cycle => Witnessed {
-            answer: Answer::Cycle(count),
-            list,
-        },
-    }
 }

@@ -5,6 +5,7 @@ use crate::answers::Cleanness;
 use crate::answers::WitnessAnswer;
 use crate::answers::Witnessed;
 use crate::cleanness::judge_clean;
+use crate::entries::an_order;
 use crate::leaving::leave;
 use crate::leaving::without_members;
 use crate::limits::Log;
@@ -21,7 +22,7 @@ ghost use lib.ListN.{length, drop};
 ghost use Rattle.words.specs.Tests.{_is_, fails};
 ghost use Rattle.words.specs.Lists.{all};
 ghost use Rattle.graph.specs.Matrix.{matrix-order};
-ghost use Rattle.verdict.specs.Limits.{transactions, witness-entries, order-entries, work-bytes};
+ghost use Rattle.verdict.specs.Limits.{transactions, witness-buffer, order-entries, work-bytes};
 ghost use Rattle.verdict.specs.Refusal.{_at_when_, _else-try_, log-refusal};
 ghost use Rattle.verdict.specs.Clean.{is-clean};
 ghost use Rattle.verdict.specs.Version.{version-edge};
@@ -88,15 +89,9 @@ fn bring(matrix: &[u64; graph::ROWS], part: [u64; graph::WORDS], order: &[u16]) 
     let list = later.list;
     let count = later.count;
     if found {
-        return Witnessed {
-            answer: Answer::Order(count),
-            list,
-        };
+        return an_order(&list[..count]);
     }
-    Witnessed {
-        answer: Answer::None,
-        list,
-    }
+    without_members(Answer::None)
 }
 
 // The next order in the graph of a clean log, or 14 where the one handed in is not on the list.
@@ -156,13 +151,13 @@ fn after_order(log: &[u16], found: Examined, order: &[u16]) -> Following
 
 // 12 where a buffer or the order handed in has a wrong length, and then what the check finds.
 fn admit_order(log: &[u16], work: usize, witness: usize, order: usize) -> Examined
-    ensures { λ r. ⌜ Examines (now (log .entry)) (12 at 0 when fails (work is work-bytes) else-try 12 at 0 when fails (witness is witness-entries)
+    ensures { λ r. ⌜ Examines (now (log .entry)) (12 at 0 when fails (work is work-bytes) else-try 12 at 0 when fails (witness is witness-buffer)
         else-try 12 at 0 when fails (order is order-entries) else-try log-refusal (now (log .entry))) r ⌝ }
 {
     if work != Log::WORK {
         return turned_away(12, 0);
     }
-    if witness != Transaction::COUNT {
+    if witness != Transaction::WITNESS {
         return turned_away(12, 0);
     }
     if order != Transaction::COUNT {

@@ -16,8 +16,11 @@ pub enum MadeTransaction {
 impl Transaction {
     pub const LIMIT: u16 = 128;
 
-    // How many transactions there are. A witness has an entry for each of them.
+    // How many transactions there are. The order handed to "next" has a number for each of them.
     pub const COUNT: usize = Transaction::LIMIT as usize;
+
+    // How many numbers a witness has: an entry of three for each of them.
+    pub const WITNESS: usize = 3 * Transaction::COUNT;
 
     // How many entries a table has that has one for each transaction and one for writer 0.
     pub const TABLE: usize = Transaction::COUNT + 1;

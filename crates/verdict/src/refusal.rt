@@ -10,7 +10,7 @@ ghost use mathlib.Core.Path.{_≡_};
 ghost use Prim.Native.Nat.{suc, _≤_};
 ghost use lib.ListN.{length};
 ghost use Rattle.words.specs.Tests.{_is_, fails, if_then_else_};
-ghost use Rattle.verdict.specs.Limits.{transactions, most-steps, witness-entries, work-bytes};
+ghost use Rattle.verdict.specs.Limits.{transactions, most-steps, witness-buffer, work-bytes};
 ghost use Rattle.verdict.specs.Log.{steps};
 ghost use Rattle.verdict.specs.Refusal.{_at_when_, _else-try_, tried, step-refusal, open-refusal, log-refusal};
 ghost use Rattle.verdict.specs.Inner.Checking.{open-by-lives, Noted, Walks, Examines};
@@ -177,12 +177,12 @@ pub(crate) fn admit(log: &[u16], work: usize) -> Examined
 
 // 12 where the work area or the witness has a wrong length, and then what the check finds.
 pub(crate) fn admit_witness(log: &[u16], work: usize, witness: usize) -> Examined
-    ensures { λ r. ⌜ Examines (now (log .entry)) (12 at 0 when fails (work is work-bytes) else-try 12 at 0 when fails (witness is witness-entries) else-try log-refusal (now (log .entry))) r ⌝ }
+    ensures { λ r. ⌜ Examines (now (log .entry)) (12 at 0 when fails (work is work-bytes) else-try 12 at 0 when fails (witness is witness-buffer) else-try log-refusal (now (log .entry))) r ⌝ }
 {
     if work != Log::WORK {
         return turned_away(12, 0);
     }
-    if witness != Transaction::COUNT {
+    if witness != Transaction::WITNESS {
         return turned_away(12, 0);
     }
     examine(log)

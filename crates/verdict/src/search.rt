@@ -2,6 +2,7 @@
 use crate::answers::Answer;
 use crate::answers::Witnessed;
 use crate::edges::takes_part;
+use crate::entries::an_order;
 use crate::leaving::without_members;
 use crate::limits::Object;
 use crate::limits::Transaction;
@@ -11,13 +12,12 @@ use crate::walk::index;
 ghost use mathlib.Core.Path.{_≡_};
 ghost use mathlib.Core.Bool.{true};
 ghost use Prim.Native.Nat.{ℕ, _≤_, _<_, _+_, _*_};
-ghost use lib.ListN.{length, getD, take};
+ghost use lib.ListN.{length, getD};
 ghost use Rattle.words.specs.Tests.{every};
 ghost use Rattle.verdict.specs.Limits.{transactions, objects, most-searched};
 ghost use Rattle.verdict.specs.Log.{committed-count};
 ghost use Rattle.verdict.specs.Refusal.{log-refusal};
 ghost use Rattle.verdict.specs.Clean.{judged-other, is-clean};
-ghost use Rattle.words.specs.Lists.{entries};
 ghost use Rattle.verdict.specs.Judgement.{Holds};
 ghost use Rattle.verdict.specs.Exact.{Exact};
 ghost use Rattle.verdict.specs.Inner.Marks.{Committed};
@@ -260,20 +260,6 @@ fn place(
     }
 }
 
-// The first n of the order, with zeros behind them.
-fn list_of(order: [u16; Transaction::SEARCHED], n: usize) -> [u16; Transaction::COUNT]
-    requires { ⌜ n ≤ most-searched ⌝ }
-    ensures { λ r. ⌜ r ≡ entries transactions (take n order) ⌝ }
-{
-    let mut list = [0u16; Transaction::COUNT];
-    let mut i: usize = 0;
-    while i < n {
-        list[i] = order[i];
-        i += 1;
-    }
-    list
-}
-
 // The first order that explains a clean, well-formed log loosely, or that there is none, by who committed and what each transaction writes. Where
 // nobody committed it is the empty one.
 pub(crate) fn find_order(
@@ -305,8 +291,5 @@ pub(crate) fn find_order(
         return without_members(Answer::None);
     }
     let order = result.order;
-    Witnessed {
-        answer: Answer::Order(left),
-        list: list_of(order, left),
-    }
+    an_order(&order[..left])
 }

@@ -7,8 +7,8 @@ use crate::answers::WitnessAnswer;
 use crate::answers::Witnessed;
 use crate::cleanness::judge_clean;
 use crate::edges::join;
-use crate::edges::show;
 use crate::edges::takes_part;
+use crate::entries::an_order;
 use crate::leaving::leave;
 use crate::leaving::without_members;
 use crate::limits::Transaction;
@@ -18,6 +18,7 @@ use crate::step::Step;
 use crate::step::step_at;
 use crate::tables::next_of;
 use crate::tables::next_writers;
+use crate::version_reasons::version_cycle;
 ghost use mathlib.Core.Path.{_≡_};
 ghost use Prim.Native.Nat.{suc, _≤_, _<_, _+_, _*_};
 ghost use lib.ListN.{length, getD};
@@ -109,7 +110,14 @@ pub(crate) fn judge_version(
     }
     let mut matrix = [0u64; graph::ROWS];
     draw(log, &mut matrix, &part, next);
-    show(&matrix, part)
+    let found = graph::sort(&matrix, part);
+    let shape = found.shape;
+    let list = found.list;
+    let count = found.count;
+    match shape {
+        graph::Shape::Order => an_order(&list[..count]),
+        graph::Shape::Cycle => version_cycle(log, &part, next, &list[..count]),
+    }
 }
 
 // The version verdict of a well-formed log, by what the check learned.
@@ -126,7 +134,7 @@ fn version_learned(log: &[u16], found: Examined) -> Witnessed
     judge_version(log, clean, part, &next)
 }
 
-// The version verdict: the fault of an unclean read, or else the first order that keeps every edge, or the first shortest cycle.
+// The version verdict: the fault of an unclean read, or else the first order that keeps every edge, or the first shortest cycle with its reasons.
 pub fn version(log: &[u16], work: &mut [u8], witness: &mut [u16]) -> WitnessAnswer
     ensures { λ r. ⌜ VersionCall (now (log .entry)) (now (work .entry)) (now (witness .entry)) r (now (work .exit)) (now (witness .exit)) ⌝ }
 {

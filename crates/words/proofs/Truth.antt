@@ -62,6 +62,11 @@ unfolding _or_
 or-no true h = refl
 or-no false h = h
 
+pub or-assoc : (a b c : Bool) → (a or (b or c)) ≡ ((a or b) or c)
+unfolding _or_
+or-assoc true b c = refl
+or-assoc false b c = refl
+
 pub and-no-left : {a : Bool} (b : Bool) → a ≡ false → (a and b) ≡ false
 unfolding _and_
 and-no-left {a = true} b h = absurd (true≢false h)

@@ -1,6 +1,6 @@
 //! Logs at the limits: 1,024 steps, 128 transactions, object 63, cycles of 2
-//! to 128 members, chains, no edges, the longest text, and what lies just
-//! beyond.
+//! to 128 members, with one reason or two for each, the widest cycle, chains,
+//! no edges, the longest text, and what lies just beyond.
 
 use super::draft::{Draft, Numbers, BEGIN, COMMIT, READ, WRITE};
 use super::play::{play, Cast, Manner, Sources};
@@ -9,7 +9,7 @@ use crate::rng::Rng;
 
 /// Each index aims at one limit.
 pub fn text(rng: &mut Rng, index: usize) -> Vec<u8> {
-    let draft = match index % 17 {
+    let draft = match index % 19 {
         0 => full(rng, 128, 64),
         1 => full_with_few_objects(rng),
         2 => full(rng, 1, 64),
@@ -26,10 +26,12 @@ pub fn text(rng: &mut Rng, index: usize) -> Vec<u8> {
         13 => last_step_beyond(rng),
         14 => serial_snapshot(rng),
         15 => two_rings(rng),
-        _ => longest(rng),
+        16 => longest(rng),
+        17 => widest(rng),
+        _ => double_ring(rng),
     };
     let mut text = draft.text();
-    if index % 17 == 12 && rng.chance(1, 2) {
+    if index % 19 == 12 && rng.chance(1, 2) {
         text = [b"steps=1025\n", &text[..]].concat();
     }
     text
@@ -196,6 +198,23 @@ fn two_rings(rng: &mut Rng) -> Draft {
     enclose(rng, &numbers, steps)
 }
 
+/// A ring with two links from each member to the one behind it: one by a read
+/// of an older version and one by a read of a new one, on objects that come in
+/// any order.
+fn double_ring(rng: &mut Rng) -> Draft {
+    let size = rng.between(2, 63);
+    let mut members = shuffled(rng, size);
+    let mut steps = links(&members, 0, Bent::Nowhere);
+    members.rotate_left(1);
+    steps.extend(links(&members, 32, Bent::Nowhere));
+    let mut objects: Vec<u16> = (0..64).collect();
+    rng.shuffle(&mut objects);
+    for step in &mut steps {
+        step[2] = objects[step[2] as usize];
+    }
+    enclose(rng, &members, steps)
+}
+
 /// 128 writers of object 63, one after another: every pair has an edge.
 fn all_write_one(rng: &mut Rng) -> Draft {
     let mut draft = Draft::default();
@@ -229,6 +248,33 @@ fn longest(rng: &mut Rng) -> Draft {
         draft.read(tx, obj, tx);
     }
     draft.commit(tx);
+    draft
+}
+
+/// The widest cycle: 128 writers of one object, one after another, and the
+/// last reads another object from before the first wrote it. Both objects have
+/// two digits. Each may also read what the one before it has written.
+fn widest(rng: &mut Rng) -> Draft {
+    let obj = rng.between(10, 62) as u16;
+    let reads = rng.chance(1, 2);
+    let numbers = shuffled(rng, 128);
+    let mut draft = Draft::default();
+    let mut before = 0;
+    for &tx in &numbers {
+        draft.begin(tx);
+        if before == 0 {
+            draft.write(tx, obj);
+        }
+        if tx == numbers[127] {
+            draft.read(tx, obj, 0);
+        }
+        if reads {
+            draft.read(tx, obj + 1, before);
+        }
+        draft.write(tx, obj + 1);
+        draft.commit(tx);
+        before = tx;
+    }
     draft
 }
 

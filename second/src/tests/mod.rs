@@ -7,6 +7,7 @@ mod every;
 mod graphs;
 mod made;
 mod points;
+mod reasons;
 mod samples;
 mod short;
 mod texts;

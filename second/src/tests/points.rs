@@ -67,13 +67,13 @@ const REPORTS: [(&str, &str); 17] = [
     ("b1 w1x c1 b2 w2x c2", "snapshot=yes"),
     (
         "b1 b2 w1x w2x w1x c1 c2",
-        "conflict=cycle 1 2; version=order 1 2; exact=order 1 2",
+        "conflict=cycle 1 ww:0 2 ww:0; version=order 1 2; exact=order 1 2",
     ),
     ("b2 c2 b1 c1", "conflict=order 1 2; exact=order 1 2"),
     ("b1 r1x0 w1x c1", "version=order 1"),
     (
         "b1 b2 r1x0 w1y w2x w2y c2 c1",
-        "version=cycle 1 2; exact=order 1 2",
+        "version=cycle 1 rw:0 2 ww:1; exact=order 1 2",
     ),
 ];
 
@@ -83,9 +83,12 @@ fn verdicts() {
         reports(short, lines);
     }
     let aborted_between = "b1 b2 r2x0 b3 w3x a3 r1y0 w1x w2y c1 c2";
-    reports(aborted_between, "version=cycle 1 2");
+    reports(aborted_between, "version=cycle 1 rw:1 2 rw:0");
     let version_between = "b1 w1x c1 b2 w2x c2 b3 r3x1 w3x c3";
-    reports(version_between, "version=cycle 2 3; exact=order 1 3 2");
+    reports(
+        version_between,
+        "version=cycle 2 ww:0 3 rw:0; exact=order 1 3 2",
+    );
 }
 
 /// The step is that of the commit, and no later commit than the reader's begin

@@ -19,8 +19,8 @@ const PRINTED_REPORT: &str = "steps=8
 committed=2
 clean=yes
 snapshot=yes
-conflict=cycle 1 2
-version=cycle 1 2
+conflict=cycle 1 rw:1 2 rw:0
+version=cycle 1 rw:1 2 rw:0
 exact=none
 ";
 
@@ -65,17 +65,19 @@ fn example_2_13() {
     let short = "b1 w1x w1y c1 b2 w2x w2y c2 b3 r3x2 r3y1 c3";
     reports(
         short,
-        "snapshot=read at 10 wants 2 from 7; conflict=order 1 2 3; version=cycle 2 3; exact=none",
+        "snapshot=read at 10 wants 2 from 7; conflict=order 1 2 3",
     );
+    reports(short, "version=cycle 2 wr:0 3 rw:1; exact=none");
     assert!(loose_list(&log(short)).is_empty());
 }
 
 #[test]
 fn lost_update() {
     let short = "b1 b2 r1x0 r2x0 w1x w2x c1 c2";
+    reports(short, "snapshot=write at 7 with 1");
     reports(
         short,
-        "snapshot=write at 7 with 1; conflict=cycle 1 2; version=cycle 1 2",
+        "conflict=cycle 1 ww:0 2 rw:0; version=cycle 1 ww:0 2 rw:0",
     );
 }
 
@@ -157,11 +159,11 @@ fn nine_committed() {
 #[test]
 fn read_only_anomaly() {
     let short = "b2 r2y0 b3 w3y c3 b1 r1y3 r1x0 w2x c2 c1";
+    reports(short, "clean=yes; snapshot=yes; exact=none");
     reports(
         short,
-        "clean=yes; snapshot=yes; version=cycle 1 2 3; exact=none",
+        "conflict=cycle 1 rw:0 2 rw:1 3 wr:1; version=cycle 1 rw:0 2 rw:1 3 wr:1",
     );
-    reports(short, "conflict=cycle 1 2 3");
 }
 
 #[test]
@@ -169,12 +171,12 @@ fn cycle_yet_loose_orders() {
     let second = "b2 r2y0 b3 w3y w3z c3 b1 r1x0 w1z c1 w2x c2";
     reports(
         second,
-        "snapshot=yes; version=cycle 1 2 3; exact=order 1 2 3",
+        "snapshot=yes; version=cycle 1 rw:0 2 rw:1 3 ww:2; exact=order 1 2 3",
     );
     let third = "b4 r4y0 b1 w1y w1x c1 b2 r2z0 w2x c2 b3 r3x2 c3 w4z c4";
     reports(
         third,
-        "snapshot=yes; version=cycle 1 2 4; exact=order 2 3 4 1",
+        "snapshot=yes; version=cycle 1 ww:0 2 rw:2 4 rw:1; exact=order 2 3 4 1",
     );
     assert_eq!(loose_list(&log(third)).len(), 2);
 }
@@ -192,13 +194,14 @@ fn two_overlapping_writers() {
 #[test]
 fn commit_order_is_not_write_order() {
     let short = "b1 b2 w2x r1x2 w1x c1 c2";
-    reports(
-        short,
-        "snapshot=read at 3 wants 0; conflict=order 2 1; version=cycle 1 2; exact=order 2 1",
-    );
+    reports(short, "snapshot=read at 3 wants 0; conflict=order 2 1");
+    reports(short, "version=cycle 1 ww:0 2 wr:0; exact=order 2 1");
 }
 
 #[test]
 fn two_sources_for_one_object() {
-    reports("b1 w1x c1 b2 r2x0 r2x1 c2", "version=cycle 1 2; exact=none");
+    reports(
+        "b1 w1x c1 b2 r2x0 r2x1 c2",
+        "version=cycle 1 wr:0 2 rw:0; exact=none",
+    );
 }

@@ -1,9 +1,11 @@
 -- `print_listing` is safe: an order that is shown is within the witness.
 use borrow.Author.Needs.{needs}
-use mathlib.Core.Path.{sym}
-use Prim.Native.Nat.{_≤_}
+use mathlib.Core.Path.{_≡_, sym}
+use Prim.Native.Nat.{_*_, _≤_}
+use native.Mathlib.Omega.{arith}
 use lib.ListN.{length}
 use lib.Seq.{length-take-le}
+use Rattle.verdict.specs.Limits.{order-entries}
 use Rattle.verdict.specs.Refusal.{log-refusal}
 use Rattle.orders.proofs.Bringing.{members-within}
 use Rattle.orders.proofs.print_listing.Statement.{statement}
@@ -19,8 +21,18 @@ called c = answered c .before .before .before .before
 abbrev entry : tie.After-judged → tie.Start
 entry c = called c .before .before .before .before
 
-within : (c : tie.After-judged) → c .judged .given .0 .0 ≤ length (called c .version .last .1 .1 .0)
+-- .. and from where it is read out of the entries
+abbrev shown : tie.After-read-order → tie.After-judged
+shown c = c .before .before .before
+
+within : (c : tie.After-judged) → 3 * c .judged .given .0 .0 ≤ length (called c .version .last .1 .1 .0)
 within c = members-within (log-refusal (entry c .args .log .now)) (answered c .answer2 .given .1) (c .judged .given .1) (called c .version .ensures)
+
+few : (c : tie.After-judged) → c .judged .given .0 .0 ≤ order-entries
+few c = let l : length (called c .version .last .1 .1 .0) ≡ 384 = search needs in omega (arith, within c)
+
+room : (c : tie.After-read-order) → shown c .judged .given .0 .0 ≤ length (c .read-order .result)
+room c = let l : length (c .read-order .result) ≡ order-entries = search needs in omega (arith, few (shown c))
 
 slice-aggregate-version : tie.Need-slice-aggregate-version
 slice-aggregate-version c = search needs
@@ -43,14 +55,20 @@ enum-known-answer-2 c = search needs
 enum-known-judged : tie.Need-enum-known-judged
 enum-known-judged c = search needs
 
+slice-aggregate-read-order : tie.Need-slice-aggregate-read-order
+slice-aggregate-read-order c = search needs
+
+read-order-requires : tie.Need-read-order-requires
+read-order-requires c κs = let d = c .before .before in (few d, within d)
+
 slice-aggregate-print-numbers : tie.Need-slice-aggregate-print-numbers
 slice-aggregate-print-numbers c = search needs
 
-array-share-prefix-witness : tie.Need-array-share-prefix-witness
-array-share-prefix-witness c = within (c .before .before)
+array-share-prefix-order : tie.Need-array-share-prefix-order
+array-share-prefix-order c = room (c .before)
 
 slice-aggregate-print-numbers-2 : tie.Need-slice-aggregate-print-numbers-2
-slice-aggregate-print-numbers-2 c = sym (length-take-le _ _ (within (c .before .before .before)))
+slice-aggregate-print-numbers-2 c = sym (length-take-le _ _ (room (c .before .before)))
 
 print-numbers-requires : tie.Need-print-numbers-requires
 print-numbers-requires c κs = search needs
@@ -84,8 +102,10 @@ print-listing-spec =
     print-refused-requires
     enum-known-answer-2
     enum-known-judged
+    slice-aggregate-read-order
+    read-order-requires
     slice-aggregate-print-numbers
-    array-share-prefix-witness
+    array-share-prefix-order
     slice-aggregate-print-numbers-2
     print-numbers-requires
     slice-aggregate-print-later

@@ -20,9 +20,12 @@ Puts w at run next run′ = (next ≡ at + length w) × (run′ ≡ put-at at w 
 abbrev pub PutsLine : (most : ℕ) (passes : List ℕ → Type 0) (at : ℕ) (run : List ℕ) (next : ℕ) (run′ : List ℕ) → Type 0
 PutsLine most passes at run next run′ = (w : List ℕ) × passes w × (length w ≤ most) × Puts w at run next run′
 
--- how many bytes a line of a report may take: that of a verdict with a witness, and any other
+-- how many bytes a line of a report may take: that of a verdict that may show a cycle, that of the exact verdict, and any other
 abbrev pub most-long : ℕ
-most-long = 544
+most-long = 1295
+
+abbrev pub most-exact : ℕ
+most-exact = 524
 
 abbrev pub most-short : ℕ
 most-short = 64

@@ -2,18 +2,11 @@
 use mathlib.Core.Path.{_≡_}
 use mathlib.Core.Bool.{Bool, false}
 use mathlib.Core.List.{List}
-use Prim.Native.Nat.{ℕ, suc, _≤_}
+use Prim.Native.Nat.{ℕ, _≤_}
 use lib.ListN.{length}
 use Rattle.words.specs.Tests.{_is_, _and_, _or_, fails}
-use Rattle.words.specs.Lists.{entries}
 use Rattle.graph.specs.Matrix.{row-words, in-row}
-use Rattle.graph.specs.Shows.{Shows}
-use Rattle.graph.specs.declared.Shape.{Shape}
-use Rattle.graph.specs.declared.Shape.the-variants as shapes
 use Rattle.verdict.specs.Limits.{transactions}
-use Rattle.verdict.specs.declared.answers.Answer.{Answer}
-use Rattle.verdict.specs.declared.answers.Answer.the-variants.{Order, Cycle}
-use Rattle.verdict.specs.declared.answers.Witnessed.{Witnessed}
 
 -- edges at writer 0 and from a transaction to itself are dropped
 unfoldable pub kept : ℕ → ℕ → Bool
@@ -44,16 +37,3 @@ pub record EdgesAdded (m : List ℕ) (v t u : ℕ) (m′ : List ℕ) : Type 0 wh
 pub record Drawn (edge : ℕ → ℕ → Bool) (m : List ℕ) : Type 0 where
   pub size : length m ≡ row-words
   pub mark : (a b : ℕ) → Pair a b → in-row m b a ≡ edge a b
-
--- an order or a cycle of n members
-unfoldable pub answer-of : Shape → ℕ → Answer
-answer-of shapes.Order n = Order n
-answer-of shapes.Cycle n = Cycle n
-
--- what is shown of a graph, by value
-pub record Showing (node : ℕ → Bool) (edge : ℕ → ℕ → Bool) (a : Witnessed) : Type 0 where
-  pub shape : Shape
-  pub shown : List ℕ
-  pub right : Shows (suc transactions) node edge shape shown
-  pub says : a .answer ≡ answer-of shape (length shown)
-  pub listed : a .list ≡ entries transactions shown

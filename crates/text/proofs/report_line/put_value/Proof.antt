@@ -1,10 +1,9 @@
 -- `put_value` meets its contract: each case has its words.
 use borrow.Author.Needs.{needs}
-use mathlib.Core.Path.{_≡_, sym, subst}
+use mathlib.Core.Path.{_≡_, subst}
 use mathlib.Core.List.{List}
-use Prim.Native.Nat.{ℕ, _≤_}
-use lib.ListN.{length, take}
-use lib.Seq.{length-take-le}
+use Prim.Native.Nat.{ℕ, _*_, _≤_}
+use lib.ListN.{length}
 use Rattle.verdict.specs.declared.answers.Answer.{Answer}
 use Rattle.text.specs.Bytes.{bytes}
 use Rattle.text.specs.Inner.Put.{Fits, Puts}
@@ -21,8 +20,8 @@ module _ (s : tie.Start) {a : Answer} (known : s .args .answer ≡ a) where
   fits : Fits (told a list) (s .args .at) (s .args .out .now)
   fits = known-fits (λ (x : Answer). told x list) known (s .args .out .now) (s .args .at) (s .pre .1)
 
-  there : length (take (told-entries a) list) ≡ told-entries a
-  there = length-take-le (told-entries a) list (subst (λ (x : Answer). told-entries x ≤ length list) known (s .pre .0))
+  there : 3 * told-entries a ≤ length list
+  there = subst (λ (x : Answer). 3 * told-entries x ≤ length list) known (s .pre .0)
 
   puts : {next : ℕ} {out′ : List ℕ} → Puts (told a list) (s .args .at) (s .args .out .now) next out′ → Puts (told (s .args .answer) list) (s .args .at) (s .args .out .now) next out′
   puts = known-puts (λ (x : Answer). told x list) known (s .args .out .now) (s .args .at)
@@ -42,10 +41,10 @@ unclean c = c .before .before .before .before
 
 -- .. and from the calls to there
 abbrev said-order : tie.After-put-members → tie.After-answer
-said-order c = c .before .before .before .before .before
+said-order c = c .before .before .before .before
 
 abbrev said-cycle : tie.After-put-members2 → tie.After-answer2
-said-cycle c = c .before .before .before .before .before
+said-cycle c = c .before .before .before .before
 
 abbrev said-none : tie.After-put-word → tie.After-enum-told
 said-none c = c .before .before .before
@@ -59,27 +58,19 @@ enum-known-answer c = search needs
 slice-aggregate-put-members : tie.Need-slice-aggregate-put-members
 slice-aggregate-put-members c = search needs
 
-slice-aggregate-put-members-2 : tie.Need-slice-aggregate-put-members-2
-unfolding told-entries
-slice-aggregate-put-members-2 c = let d = c .before .before .before .before in sym (there (order d) (d .answer .given .1))
-
 put-members-requires : tie.Need-put-members-requires
-unfolding told bytes
-put-members-requires c κs = let d = c .before .before .before .before in fits (order d) (d .answer .given .1)
+unfolding told told-entries bytes
+put-members-requires c κs = let d = c .before .before .before in (there (order d) (d .answer .given .1), fits (order d) (d .answer .given .1))
 
 enum-known-answer-2 : tie.Need-enum-known-answer-2
 enum-known-answer-2 c = search needs
 
-slice-aggregate-put-members-3 : tie.Need-slice-aggregate-put-members-3
-slice-aggregate-put-members-3 c = search needs
-
-slice-aggregate-put-members-4 : tie.Need-slice-aggregate-put-members-4
-unfolding told-entries
-slice-aggregate-put-members-4 c = let d = c .before .before .before .before in sym (there (cycle d) (d .answer2 .given .1))
+slice-aggregate-put-members-2 : tie.Need-slice-aggregate-put-members-2
+slice-aggregate-put-members-2 c = search needs
 
 put-members-requires-2 : tie.Need-put-members-requires-2
-unfolding told bytes
-put-members-requires-2 c κs = let d = c .before .before .before .before in fits (cycle d) (d .answer2 .given .1)
+unfolding told told-entries bytes
+put-members-requires-2 c κs = let d = c .before .before .before in (there (cycle d) (d .answer2 .given .1), fits (cycle d) (d .answer2 .given .1))
 
 enum-told : tie.Need-enum-told
 enum-told c = search needs
@@ -144,11 +135,9 @@ put-value-spec =
     (tie.spec
     enum-known-answer
     slice-aggregate-put-members
-    slice-aggregate-put-members-2
     put-members-requires
     enum-known-answer-2
-    slice-aggregate-put-members-3
-    slice-aggregate-put-members-4
+    slice-aggregate-put-members-2
     put-members-requires-2
     enum-told
     slice-aggregate-put-word

@@ -6,7 +6,7 @@ use lib.ListN.{length}
 use Rattle.text.specs.Bytes.{bytes}
 use Rattle.text.specs.ReportLine.{over-line}
 use Rattle.text.specs.Report.{ExactLine, exact-line}
-use Rattle.text.specs.Inner.Put.{most-long}
+use Rattle.text.specs.Inner.Put.{most-exact}
 use Rattle.text.proofs.Tells.{line-fits, line-puts, over-line-told, exact-told}
 use Rattle.text.proofs.Room.{exact-fits}
 use Rattle.text.proofs.reports.put_exact.Statement.{statement}
@@ -30,7 +30,7 @@ said-searched c = c .before .before .before .before .before
 told-over : (c : tie.After-enum-told) → ExactLine (over c .args .log .now) over-line
 told-over c = over-line-told (over c .pre .1) (c .enum-told .given .1)
 
-short-over : (c : tie.After-enum-told) → length over-line ≤ most-long
+short-over : (c : tie.After-enum-told) → length over-line ≤ most-exact
 short-over c = exact-fits (over c .args .log .now) (over c .pre .0) (told-over c)
 
 enum-told : tie.Need-enum-told
@@ -60,7 +60,7 @@ put-answer-requires c κs =
     let log = s .args .log .now in
     let h = exact-told (s .pre .1) (d .exactness .given .1) in
     let line = exact-line (h .0) (h .1 .right) in
-    line-fits (h .1) (ExactLine log) (bytes "exact=") line (exact-fits log (s .pre .0) line) (s .args .out .now) (s .args .at) (s .pre .2)
+    line-fits (h .1) most-exact (ExactLine log) (bytes "exact=") line (exact-fits log (s .pre .0) line) (s .args .out .now) (s .args .at) (s .pre .2)
 
 same-length : tie.Need-same-length
 same-length c = search needs
@@ -84,7 +84,7 @@ returns-2 c =
     let log = s .args .log .now in
     let h = exact-told (s .pre .1) (d .exactness .given .1) in
     let line = exact-line (h .0) (h .1 .right) in
-    line-puts (h .1) (ExactLine log) (bytes "exact=") line (exact-fits log (s .pre .0) line) (s .args .out .now) (s .args .at) (p .put-answer .ensures)
+    line-puts (h .1) most-exact (ExactLine log) (bytes "exact=") line (exact-fits log (s .pre .0) line) (s .args .out .now) (s .args .at) (p .put-answer .ensures)
 
 pub put-exact-spec : {M : Type 1} → statement M
 put-exact-spec =

@@ -6,7 +6,7 @@ use Prim.Native.Nat.{ℕ, _+_, _*_, _≤_}
 use lib.ListN.{length}
 use Rattle.text.specs.Report.{first-lines, LogReport, judged}
 use Rattle.text.specs.ReportCall.{report-bytes}
-use Rattle.text.specs.Inner.Put.{most-long}
+use Rattle.text.specs.Inner.Put.{most-long, most-exact}
 use Rattle.text.proofs.Puts.{four-put}
 use Rattle.text.proofs.Room.{first-fit, log-report-fits}
 use Rattle.text.proofs.reports.put_verdicts.Statement.{statement}
@@ -29,13 +29,13 @@ abbrev version : tie.After-put-exact → tie.After-put-version
 version c = c .before .before .before .before
 
 -- the room behind what is put
-room₁ : (c : tie.After-put-first) → c .put-first .result + 3 * most-long ≤ length (c .put-first .last .1 .1 .1 .0)
+room₁ : (c : tie.After-put-first) → c .put-first .result + 2 * most-long + most-exact ≤ length (c .put-first .last .1 .1 .1 .0)
 room₁ c = let s = entry c in let p = c .put-first in omega (arith, p .ensures .0, p .kept .1 .1 .1 .0, first-fit (s .args .log .now) (s .pre .0), s .pre .2)
 
-room₂ : (c : tie.After-put-conflict) → c .put-conflict .result + 2 * most-long ≤ length (c .put-conflict .last .1 .1 .0)
+room₂ : (c : tie.After-put-conflict) → c .put-conflict .result + most-long + most-exact ≤ length (c .put-conflict .last .1 .1 .0)
 room₂ c = let p = c .put-conflict in omega (arith, p .ensures .2, p .ensures .3 .0, p .kept .1 .1 .0, room₁ (first c))
 
-room₃ : (c : tie.After-put-version) → c .put-version .result + most-long ≤ length (c .put-version .last .1 .1 .0)
+room₃ : (c : tie.After-put-version) → c .put-version .result + most-exact ≤ length (c .put-version .last .1 .1 .0)
 room₃ c = let p = c .put-version in omega (arith, p .ensures .2, p .ensures .3 .0, p .kept .1 .1 .0, room₂ (conflict c))
 
 put-first-requires : tie.Need-put-first-requires

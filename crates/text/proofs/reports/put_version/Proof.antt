@@ -2,6 +2,7 @@
 use borrow.Author.Needs.{needs}
 use Rattle.text.specs.Bytes.{bytes}
 use Rattle.text.specs.Report.{VersionLine, version-line}
+use Rattle.text.specs.Inner.Put.{most-long}
 use Rattle.text.proofs.Tells.{line-fits, line-puts}
 use Rattle.text.proofs.Room.{version-fits}
 use Rattle.text.proofs.reports.put_version.Statement.{statement}
@@ -24,7 +25,7 @@ put-answer-requires c κs =
     let log = s .args .log .now in
     let h = s .pre .1 in
     let line = version-line (h .right) in
-    line-fits h (VersionLine log) (bytes "version=") line (version-fits log (s .pre .0) line) (s .args .out .now) (s .args .at) (s .pre .2)
+    line-fits h most-long (VersionLine log) (bytes "version=") line (version-fits log (s .pre .0) line) (s .args .out .now) (s .args .at) (s .pre .2)
 
 same-length : tie.Need-same-length
 same-length c = search needs
@@ -37,7 +38,7 @@ returns c =
     let log = s .args .log .now in
     let h = s .pre .1 in
     let line = version-line (h .right) in
-    line-puts h (VersionLine log) (bytes "version=") line (version-fits log (s .pre .0) line) (s .args .out .now) (s .args .at) (p .put-answer .ensures)
+    line-puts h most-long (VersionLine log) (bytes "version=") line (version-fits log (s .pre .0) line) (s .args .out .now) (s .args .at) (p .put-answer .ensures)
 
 pub put-version-spec : {M : Type 1} → statement M
 put-version-spec =

@@ -2,7 +2,7 @@
 use mathlib.Core.Path.{_≡_, refl}
 use borrow.Author.Needs.{needs}
 use Rattle.words.specs.Lists.{zeros}
-use Rattle.verdict.specs.Limits.{transactions}
+use Rattle.verdict.specs.Limits.{witness-buffer}
 use Rattle.verdict.specs.Judgement.{refused-alone}
 use Rattle.verdict.specs.declared.answers.Answer.the-variants.{None}
 use Rattle.verdict.specs.declared.answers.Witnessed.{Witnessed}
@@ -24,7 +24,7 @@ unfolding refused-alone
 returns c =
     let second = c .before in
     let first = second .before in
-    let none : Witnessed = record { answer = None; list = zeros transactions } in
+    let none : Witnessed = record { answer = None; list = zeros witness-buffer } in
     let conflict : first .without-members .result ≡ none = same-witnessed _ none (first .without-members .ensures .0) (first .without-members .ensures .1) in
     let version : second .without-members2 .result ≡ none = same-witnessed _ none (second .without-members2 .ensures .0) (second .without-members2 .ensures .1) in
     rw (conflict, version, c .exact-without-members .ensures) refl

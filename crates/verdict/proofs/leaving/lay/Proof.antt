@@ -4,25 +4,25 @@ use Prim.Native.Nat.{_-_}
 use native.Mathlib.Omega.{arith}
 use borrow.Author.Needs.{needs}
 use lib.ListN.{length, getD}
-use Rattle.verdict.specs.Limits.{witness-entries}
+use Rattle.verdict.specs.Limits.{witness-buffer}
 use Rattle.verdict.proofs.Filled.{Filled, filled-none, filled-more, filled-copy}
 use Rattle.verdict.proofs.leaving.lay.Statement.{statement}
 use Rattle.verdict.proofs.leaving.lay.Tie as tie
 
 abbrev Inv-loop : tie.InvT-loop
-Inv-loop witness₀ list i₀ witness i = (length list ≡ witness-entries) × Filled witness-entries (λ u. getD list u 0) i witness
+Inv-loop witness₀ list i₀ witness i = (length list ≡ witness-buffer) × Filled witness-buffer (λ u. getD list u 0) i witness
 
 abbrev μ-loop : tie.MeasureT-loop
-μ-loop witness₀ list i₀ witness i = witness-entries - i
+μ-loop witness₀ list i₀ witness i = witness-buffer - i
 
 loop-holds : tie.Need-loop-holds Inv-loop μ-loop
-loop-holds c = (search needs, filled-none (c .pre))
+loop-holds c = (c .pre .1, filled-none (c .pre .0))
 
 mul-witness : tie.Need-mul-witness Inv-loop μ-loop
 mul-witness c = omega arith
 
-array-read-witness : tie.Need-array-read-witness Inv-loop μ-loop
-array-read-witness c = omega arith
+element-copy-out-witness : tie.Need-element-copy-out-witness Inv-loop μ-loop
+element-copy-out-witness c = omega arith
 
 mul-witness-2 : tie.Need-mul-witness-2 Inv-loop μ-loop
 mul-witness-2 c = omega arith
@@ -37,10 +37,10 @@ loop-less : tie.Need-loop-less Inv-loop μ-loop
 loop-less c = omega arith
 
 loop-again : tie.Need-loop-again Inv-loop μ-loop
-loop-again c = let inv = c .before .loop .inv in (inv .0, filled-more (inv .1) _ (c .loop-test .taken) refl)
+loop-again c = let at = c .before .before in let inv = at .loop .inv in (inv .0, filled-more (inv .1) _ (c .before .loop-test .taken) refl)
 
 same-length : tie.Need-same-length Inv-loop μ-loop
-same-length c = c .before .loop .inv .1 .size ∙ sym (c .before .before .pre)
+same-length c = c .before .loop .inv .1 .size ∙ sym (c .before .before .pre .0)
 
 returns : tie.Need-returns Inv-loop μ-loop
 returns c = let inv = c .before .loop .inv in filled-copy _ (inv .1) (c .loop-test .left) (inv .0)
@@ -53,7 +53,7 @@ lay-spec =
     μ-loop
     loop-holds
     mul-witness
-    array-read-witness
+    element-copy-out-witness
     mul-witness-2
     slice-write-witness
     add-i

@@ -1,10 +1,12 @@
 -- `find_order` meets its contract.
-use mathlib.Core.Path.{_≡_}
-use Prim.Native.Nat.{ℕ, _≤_}
+use mathlib.Core.Path.{_≡_, sym}
+use Prim.Native.Nat.{_≤_}
 use native.Mathlib.Omega.{arith}
 use borrow.Author.Tests.{not-true, not-false}
-use lib.ListN.{length}
+use lib.ListN.{length, take}
+use lib.Seq.{length-take-le}
 use Rattle.verdict.specs.Limits.{most-searched}
+use Rattle.verdict.proofs.Threes.{held}
 use Rattle.verdict.proofs.Memberless.{holds-none}
 use Rattle.verdict.proofs.Versions.{committed-range}
 use Rattle.verdict.proofs.WellFormed.{well-formed}
@@ -31,8 +33,11 @@ few : (c : tie.After-list-committed) → c .list-committed .result .count ≤ mo
 few c = let q = entry c .pre in few-enough _ (c .list-committed .ensures) (q .0) (q .2)
 
 -- the order has room for all that the search takes
-room : (c : tie.After-order) → length (c .before .before .place .result .order) ≡ most-searched
+room : (c : tie.After-place) → length (c .place .result .order) ≡ most-searched
 room c = search needs
+
+slice : (c : tie.After-place) → let n = found-list c .list-committed .result .count in n ≡ length (take n (c .place .result .order))
+slice c = sym (length-take-le _ _ (omega (arith, few (found-list c), room c)))
 
 list-committed-requires : tie.Need-list-committed-requires
 list-committed-requires c κs = search needs
@@ -73,16 +78,20 @@ returns-2 c =
     let q = entry (found-list p) .pre in
     holds-none (none-found _ _ _ (q .1) (rw (not-true (p .place .result .found) (c .before .if2 .taken)) at (p .place .ensures))) (c .without-members2 .ensures)
 
-list-of-requires : tie.Need-list-of-requires
-list-of-requires c κs = few (found-list (c .before .before))
+array-share-prefix-order : tie.Need-array-share-prefix-order
+array-share-prefix-order c = let p = c .before .before in omega (arith, few (found-list p), room p)
+
+slice-aggregate-an-order : tie.Need-slice-aggregate-an-order
+slice-aggregate-an-order c = slice (c .before .before .before)
+
+an-order-requires : tie.Need-an-order-requires
+an-order-requires c κs = let p = c .before .before .before in omega (arith, slice p, few (found-list p))
 
 returns-3 : tie.Need-returns-3
 returns-3 c =
-    let e = c .before .before in
+    let e = c .before .before .before in
     let p = e .before in
-    let l = found-list p in
-    let n : ℕ = l .list-committed .result .count in
-    order-found _ n (p .place .result .order) _ (omega (arith, few l, room (c .before))) (rw (not-false (p .place .result .found) (e .if2 .left)) at (p .place .ensures)) (c .list-of .ensures)
+    held _ (order-found _ _ _ (rw (not-false (p .place .result .found) (e .if2 .left)) at (p .place .ensures))) (c .an-order .ensures)
 
 pub find-order-spec : {M : Type 1} → statement M
 find-order-spec =
@@ -96,5 +105,7 @@ find-order-spec =
     place-requires
     without-members-requires-2
     returns-2
-    list-of-requires
+    array-share-prefix-order
+    slice-aggregate-an-order
+    an-order-requires
     returns-3)

@@ -1,12 +1,11 @@
 -- `touched_row` meets its contract.
-use mathlib.Core.Path.{sym, ap, _∙_}
-use native.Mathlib.Omega.{arith}
+use mathlib.Core.Path.{sym, _∙_}
 use native.Mathlib.Numerals.{add-one}
 use Rattle.words.proofs.Truth.{→is, →isnt, if-true, if-false}
 use Rattle.verdict.specs.Inner.ConflictEdges.{touched-row}
 use borrow.Author.Needs.{needs}
-use Rattle.verdict.proofs.conflict_graph.touched_row.Statement.{statement}
-use Rattle.verdict.proofs.conflict_graph.touched_row.Tie as tie
+use Rattle.verdict.proofs.touching.touched_row.Statement.{statement}
+use Rattle.verdict.proofs.touching.touched_row.Tie as tie
 
 index-requires : tie.Need-index-requires
 index-requires c κs = search needs
