@@ -1,4 +1,4 @@
--- The kinds of a dependency: 1 from a write to a write, 2 from a write to a read, 3 from a read to a write. Each is on an object.
+-- The kinds of a dependency: ww, which is 1, from a write to a write; wr, 2, from a write to a read; rw, 3, from a read to a write. Each is on an object.
 use mathlib.Core.Bool.{Bool}
 use Prim.Native.Nat.{ℕ}
 use Rattle.words.specs.Tests.{some}

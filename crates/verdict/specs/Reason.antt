@@ -11,7 +11,7 @@ pub record Entry : Type 0 where
   pub kind : ℕ
   pub object : ℕ
 
--- of several dependencies the lowest object goes first, and on one object the lowest kind
+-- if several fit, the lowest object goes first, and on one object ww, wr, rw in that order, which is that of their numbers
 unfoldable pub first-object : (ℕ → ℕ → Bool) → ℕ
 first-object on = lowest objects (λ x. some 4 (λ k. on x k))
 
