@@ -5,6 +5,7 @@ use mathlib.Core.Logic.{_⊎_, inl, inr, ⊎-elim}
 use mathlib.Core.List.{List, [], _∷_, map}
 use Prim.Native.Nat.{ℕ, zero, suc, _+_, _*_, _/_, _%_, _≤_, _<_}
 use native.Mathlib.Omega.{arith}
+use native.Mathlib.Nat.{le-of-eq}
 use lib.ListN.{length, getD, set, replicate, length-set, length-replicate, getD-replicate, List·getD-eq-default}
 use lib.Seq.{getD-set-same, getD-set-other}
 use Rattle.words.specs.Tests.{_is_, _below_, _and_, _or_, if_then_else_, some}
@@ -92,9 +93,6 @@ least-same l f =
       least = λ x k h. l .least x k (sym (f x k) ∙ h);
     }
 
-le-of : {m n : ℕ} → m ≡ n → m ≤ n
-le-of e = omega arith
-
 -- one more is offered, if it fits
 module _ {on other : ℕ → ℕ → Bool} {e : ℕ} (l : Least on e) (fits : Bool) (y m : ℕ) (m-low : m < 4) (more : (x k : ℕ) → other x k ≡ (on x k or (fits and y is x and m is k))) where
   lower : number-if fits y m < e → Least other (number-if fits y m)
@@ -108,7 +106,7 @@ module _ {on other : ℕ → ℕ → Bool} {e : ℕ} (l : Least on e) (fits : Bo
             one = inr (y, m, m-low, refl, more y m ∙ →or-right _ (→and (→and t (→is refl)) (→is refl)));
             least = λ x k q. ⊎-elim
                 (λ o. let a : e ≤ reason-number x k = l .least x k o in let b : reason-number y m < e = rw (if-true (reason-number y m) no-reason t) at h in omega arith)
-                (λ o. let u : y ≡ x = is→ (and→ (and→ o .0) .1) in let v : m ≡ k = is→ (and→ o .1) in le-of (ap₂ reason-number u v))
+                (λ o. let u : y ≡ x = is→ (and→ (and→ o .0) .1) in let v : m ≡ k = is→ (and→ o .1) in le-of-eq (ap₂ reason-number u v))
                 (or→ (sym (more x k) ∙ q));
           })
       go (inr f) =

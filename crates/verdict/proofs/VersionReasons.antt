@@ -10,7 +10,7 @@ use Rattle.words.specs.Tests.{_is_, _and_, _or_, some}
 use Rattle.words.proofs.Truth.{same-test, and→, →and, and-true, and-no-left, and-no-right, or→, →or-left, →or-right, or-no, or-false, or-assoc, is→, →is, →isnt, some→, →some}
 use Rattle.verdict.specs.Log.{steps, kind, tx, obj, src, reads, writes, committed, writer}
 use Rattle.verdict.specs.Clean.{judged}
-use Rattle.verdict.specs.Version.{writer-to-next, source-to-reader, reader-to-next, version-on}
+use Rattle.verdict.specs.Version.{next-version, writer-to-next, source-to-reader, reader-to-next, version-on}
 use Rattle.verdict.specs.Inner.VersionEdges.{next-writer}
 use Rattle.verdict.specs.Inner.Reasons.{Ring, follower, Best, edge-on, with-edge}
 use Rattle.verdict.specs.Inner.VersionReasons.{write-reasons, read-reasons, step-reasons, version-until}
@@ -91,6 +91,18 @@ module _ (log : List ℕ) (a b x k : ℕ) (b-some : b ≡ 0 → ⊥) where
           let n : next-writer log x (src log i) ≡ b = rw (← g) f in
           rw (← m) (→version-on-reader log a b x (→some _ i l (→and (→and (→and (→and w c) (s .1)) (t .0)) (→next-version log x (src log i) b n b-some))))
 
+  -- a judged read of x that passes two tests: it is a read, of a committed transaction
+  read-of : (p q : ℕ → Bool) → some (steps log) (λ i. judged log i and obj log i is x and p i and q i) ≡ true
+      → (i : ℕ) × (i < steps log) × ((kind log i is 2) ≡ true) × (committed log (tx log i) ≡ true) × ((obj log i is x) ≡ true) × (p i ≡ true) × (q i ≡ true)
+  unfolding judged reads
+  read-of p q h =
+      let r = some→ h in
+      let s = and→ (r .2) in
+      let t = and→ (s .0) in
+      let u = and→ (t .0) in
+      let j = and→ (u .0) in
+      (r .0, r .1, j .0, j .1, u .1, t .1, s .1)
+
   -- and each of the graph is one of a step
   on-step : version-on log a b x k ≡ true → (i : ℕ) × (i < steps log) × (step-reasons log i a b x k ≡ true)
   unfolding step-reasons write-reasons read-reasons edge-on writer-to-next source-to-reader reader-to-next writer writes judged reads
@@ -111,26 +123,17 @@ module _ (log : List ℕ) (a b x k : ℕ) (b-some : b ≡ 0 → ⊥) where
 
       source : (k ≡ 2) × (source-to-reader log a b x ≡ true) → (i : ℕ) × (i < steps log) × (step-reasons log i a b x k ≡ true)
       source q =
-          let r = some→ (q .1) in
-          let i : ℕ = r .0 in
-          let s = and→ (r .2) in
-          let t = and→ (s .0) in
-          let u = and→ (t .0) in
-          let j = and→ (u .0) in
-          (i, r .1, →and (j .1) (→or-right _ (→and (j .0) (→or-left _ (→and (→and (→and (t .1) (s .1)) (u .1)) (→is (sym (q .0))))))))
+          let r = read-of (λ i. src log i is a) (λ i. tx log i is b) (q .1) in
+          (r .0, r .1, →and (r .3) (→or-right _ (→and (r .2) (→or-left _ (→and (→and (→and (r .5) (r .6)) (r .4)) (→is (sym (q .0))))))))
 
       reader : (k ≡ 3) × (reader-to-next log a b x ≡ true) → (i : ℕ) × (i < steps log) × (step-reasons log i a b x k ≡ true)
       reader q =
-          let r = some→ (q .1) in
+          let r = read-of (λ i. tx log i is a) (λ i. next-version log x (src log i) b) (q .1) in
           let i : ℕ = r .0 in
-          let s = and→ (r .2) in
-          let t = and→ (s .0) in
-          let u = and→ (t .0) in
-          let j = and→ (u .0) in
-          let g : obj log i ≡ x = is→ (u .1) in
-          let n : next-writer log x (src log i) ≡ b = next-version→ log x (src log i) b (s .1) in
+          let g : obj log i ≡ x = is→ (r .4) in
+          let n : next-writer log x (src log i) ≡ b = next-version→ log x (src log i) b (r .6) in
           let f : next-writer log (obj log i) (src log i) ≡ b = rw g n in
-          (i, r .1, →and (j .1) (→or-right _ (→and (j .0) (→or-right _ (→and (→and (→and (t .1) (→is f)) (u .1)) (→is (sym (q .0))))))))
+          (i, r .1, →and (r .3) (→or-right _ (→and (r .2) (→or-right _ (→and (→and (→and (r .5) (→is f)) (r .4)) (→is (sym (q .0))))))))
 
   all-on : version-on log a b x k ≡ version-until log (steps log) a b x k
   unfolding version-until
