@@ -5,6 +5,7 @@
 #include "judges.h"
 
 static struct buffers by_ours, by_peer;
+static struct live_buffers live_by_ours, live_by_peer;
 
 /* Whether the last two calls have answered and left the same. */
 static unsigned differ(const char *where, const char *verdict, uint64_t our_answer, uint64_t peer_answer)
@@ -46,7 +47,23 @@ static unsigned differ_on_listing(const char *where, const struct log *l)
     return bad;
 }
 
-unsigned disagreements(struct workload *room)
+/* What each keeps in the state is its own; the answers have to be the same, and each step is good. */
+static unsigned differ_on_stream(const struct stream *s, size_t at_once)
+{
+    memset(live_by_ours.answers, 0xa5, sizeof live_by_ours.answers);
+    memset(live_by_peer.answers, 0xa5, sizeof live_by_peer.answers);
+    uint64_t our_answer = judge_stream(&ours, s, at_once, &live_by_ours);
+    uint64_t peer_answer = judge_stream(&peer, s, at_once, &live_by_peer);
+    unsigned bad = our_answer != peer_answer
+        || memcmp(live_by_ours.answers, live_by_peer.answers, sizeof live_by_ours.answers) != 0;
+    for (size_t k = 0; k < s->steps; k++)
+        bad |= live_by_peer.answers[k] != (s->numbers[4 * k] == 4 ? KRUPOVESH_LIVE_YES : KRUPOVESH_LIVE_TAKEN);
+    if (bad)
+        fprintf(stderr, "%s, %zu at once: ours and the peer differ, or a step is not good\n", s->name, at_once);
+    return bad;
+}
+
+unsigned disagreements(struct workload *room, struct stream *stream)
 {
     unsigned bad = 0;
     for (unsigned i = 0; i < workload_count; i++) {
@@ -58,6 +75,11 @@ unsigned disagreements(struct workload *room)
         make_listing(i, room);
         bad += differ_on_log(room->name, room->logs);
         bad += differ_on_listing(room->name, room->logs);
+    }
+    for (unsigned i = 0; i < stream_count; i++) {
+        make_stream(i, stream);
+        bad += differ_on_stream(stream, stream->steps);
+        bad += differ_on_stream(stream, 1);
     }
     return bad;
 }

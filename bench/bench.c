@@ -1,4 +1,5 @@
-/* Prints, for each verdict and each workload, what ours costs as a multiple of the peer, and what the peer costs. */
+/* Prints, for each verdict and each workload, and for the live judge on each stream, what ours costs as a multiple of the peer, and what
+ * each costs. */
 #define _POSIX_C_SOURCE 199309L
 #include <stdio.h>
 #include <stdlib.h>
@@ -12,15 +13,18 @@ static const double shortest = 0.05; /* seconds that a side is run in a round */
 
 static struct workload room;
 static struct buffers lent;
+static struct stream stream;
+static struct live_buffers live;
 
-/* What is run many times: a verdict on each log of a workload, or a listing. */
+/* What is run many times: a verdict on each log of a workload, a listing, or a stream with so many steps a call. */
+enum sort { VERDICT, LISTING, STREAM };
 struct task {
-    const struct workload *w;
+    enum sort sort;
     unsigned verdict;
-    int is_listing;
+    size_t at_once;
 };
 
-/* What a task costs: ours as a multiple of the peer, and each in microseconds a log. */
+/* What a task costs: ours as a multiple of the peer, and each in microseconds a log, or in nanoseconds a step. */
 enum { RATIO, PEER, OURS, FIGURES };
 struct cost {
     double figure[FIGURES];
@@ -34,19 +38,32 @@ static double seconds(void)
     return (double)now.tv_sec + 1e-9 * (double)now.tv_nsec;
 }
 
+static void run_once(const struct judge *j, const struct task *t)
+{
+    if (t->sort == STREAM) {
+        judge_stream(j, &stream, t->at_once, &live);
+        return;
+    }
+    for (unsigned k = 0; k < room.count; k++) {
+        if (t->sort == LISTING)
+            judge_listing(j, &room.logs[k], &lent);
+        else
+            judge_log(j, t->verdict, &room.logs[k], &lent);
+    }
+}
+
 static double run(const struct judge *j, const struct task *t, unsigned long times)
 {
     double start = seconds();
-    for (unsigned long i = 0; i < times; i++) {
-        for (unsigned k = 0; k < t->w->count; k++) {
-            const struct log *l = &t->w->logs[k];
-            if (t->is_listing)
-                judge_listing(j, l, &lent);
-            else
-                judge_log(j, t->verdict, l, &lent);
-        }
-    }
+    for (unsigned long i = 0; i < times; i++)
+        run_once(j, t);
     return seconds() - start;
+}
+
+/* What a second for one run of a task is, in the unit of the figures. */
+static double unit(const struct task *t)
+{
+    return t->sort == STREAM ? 1e9 / (double)stream.steps : 1e6 / room.count;
 }
 
 /* How often to run a side so that it takes long enough. This warms it up, too. */
@@ -76,8 +93,8 @@ static struct cost measure(const struct task *t)
     memset(&lent, 0, sizeof lent);
     unsigned long our_times = enough(&ours, t), peer_times = enough(&peer, t);
     for (unsigned i = 0; i < ROUNDS; i++) {
-        seen[OURS][i] = 1e6 * run(&ours, t, our_times) / (double)our_times / t->w->count;
-        seen[PEER][i] = 1e6 * run(&peer, t, peer_times) / (double)peer_times / t->w->count;
+        seen[OURS][i] = unit(t) * run(&ours, t, our_times) / (double)our_times;
+        seen[PEER][i] = unit(t) * run(&peer, t, peer_times) / (double)peer_times;
         seen[RATIO][i] = seen[OURS][i] / seen[PEER][i];
     }
     for (unsigned f = 0; f < FIGURES; f++) {
@@ -119,7 +136,7 @@ static void print_verdicts(void)
         make_workload(i, &room);
         names[i] = room.name;
         for (unsigned v = 0; v < VERDICTS; v++)
-            costs[i][v] = measure(&(struct task){&room, v, 0});
+            costs[i][v] = measure(&(struct task){VERDICT, v, 0});
     }
     print_table("Ours / peer:", RATIO, names, costs);
     print_table("The peer, in microseconds a log:", PEER, names, costs);
@@ -133,41 +150,79 @@ static void print_listings(void)
     for (unsigned i = 0; i < listing_count; i++) {
         make_listing(i, &room);
         printf("| %s | %u |", room.name, judge_listing(&ours, room.logs, &lent));
-        struct cost c = measure(&(struct task){&room, 0, 1});
+        struct cost c = measure(&(struct task){LISTING, 0, 0});
         for (unsigned f = 0; f < FIGURES; f++)
             print_figure(c.figure[f]);
         printf("\n");
     }
 }
 
-/* For a profiler: ours alone and once, on the logs of one row of the table, or over one listing. */
-static int run_once(const char *verdict, unsigned row)
+/* Whole streams in one call, and one step a call. */
+static void print_streams(void)
 {
-    struct task t = {&room, 0, strcmp(verdict, "next") == 0};
-    while (!t.is_listing && t.verdict < VERDICTS && strcmp(verdict, verdict_names[t.verdict]) != 0)
-        t.verdict++;
-    if (t.verdict == VERDICTS || row >= (t.is_listing ? listing_count : workload_count)) {
-        fprintf(stderr, "bench [VERDICT ROW]\n");
+    printf("\nThe live judge from the fresh state on, in nanoseconds a step; the whole stream in one call, and one step a call:\n\n");
+    printf("| stream | one call: ours / peer | peer | ours | a call a step: ours / peer | peer | ours |\n");
+    printf("|---|---:|---:|---:|---:|---:|---:|\n");
+    for (unsigned i = 0; i < stream_count; i++) {
+        make_stream(i, &stream);
+        printf("| %s |", stream.name);
+        const size_t at_once[] = {stream.steps, 1};
+        for (unsigned k = 0; k < 2; k++) {
+            struct cost c = measure(&(struct task){STREAM, 0, at_once[k]});
+            for (unsigned f = 0; f < FIGURES; f++)
+                print_figure(c.figure[f]);
+        }
+        printf("\n");
+    }
+}
+
+/* Makes the row of a table, by the word of a verdict, `next`, `live` or `step`; false where there is none. */
+static int make_row(const char *word, unsigned row, struct task *t)
+{
+    if (strcmp(word, "live") == 0 || strcmp(word, "step") == 0) {
+        if (row >= stream_count)
+            return 0;
+        make_stream(row, &stream);
+        *t = (struct task){STREAM, 0, word[0] == 'l' ? stream.steps : 1};
+        return 1;
+    }
+    if (strcmp(word, "next") == 0) {
+        *t = (struct task){LISTING, 0, 0};
+        if (row < listing_count)
+            make_listing(row, &room);
+        return row < listing_count;
+    }
+    for (t->verdict = 0; t->verdict < VERDICTS && strcmp(word, verdict_names[t->verdict]) != 0; t->verdict++)
+        ;
+    if (t->verdict == VERDICTS || row >= workload_count)
+        return 0;
+    make_workload(row, &room);
+    return 1;
+}
+
+/* For a profiler: ours alone and once, on the logs of one row of a table. */
+static int profile(const char *word, unsigned row)
+{
+    struct task t = {VERDICT, 0, 0};
+    if (!make_row(word, row, &t)) {
+        fprintf(stderr, "bench [VERDICT|next|live|step ROW]\n");
         return 2;
     }
-    if (t.is_listing)
-        make_listing(row, &room);
-    else
-        make_workload(row, &room);
-    run(&ours, &t, 1);
+    run_once(&ours, &t);
     return 0;
 }
 
 int main(int count, char **words)
 {
     if (count == 3)
-        return run_once(words[1], (unsigned)strtoul(words[2], NULL, 10));
-    unsigned bad = disagreements(&room);
+        return profile(words[1], (unsigned)strtoul(words[2], NULL, 10));
+    unsigned bad = disagreements(&room, &stream);
     if (bad != 0) {
         fprintf(stderr, "ours and the peer differ %u times; nothing was timed\n", bad);
         return 1;
     }
     print_verdicts();
     print_listings();
+    print_streams();
     return 0;
 }

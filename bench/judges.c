@@ -1,6 +1,8 @@
 /* The calls of ours and of the peer, behind one face. */
 #include "judges.h"
 
+#include <string.h>
+
 #include "peer.h"
 
 typedef uint64_t over_log(const uint16_t *, size_t, uint8_t *, size_t);
@@ -13,12 +15,14 @@ struct judge {
     uint64_t (*read)(const uint8_t *, size_t, uint16_t *, size_t);
     over_log *write;
     uint64_t (*report)(const uint8_t *, size_t, uint8_t *, size_t);
+    uint64_t (*live)(uint16_t *, size_t, uint16_t *, size_t, uint16_t *, size_t, uint64_t *, size_t, uint64_t *, size_t,
+                     const uint16_t *, size_t, uint16_t *, size_t);
 };
 
 const struct judge ours = {krupovesh_clean, krupovesh_snapshot, krupovesh_conflict, krupovesh_version, krupovesh_exact,
-                           krupovesh_next,  krupovesh_read,     krupovesh_write,    krupovesh_report};
+                           krupovesh_next,  krupovesh_read,     krupovesh_write,    krupovesh_report,  krupovesh_live};
 const struct judge peer = {peer_clean, peer_snapshot, peer_conflict, peer_version, peer_exact,
-                           peer_next,  peer_read,     peer_write,    peer_report};
+                           peer_next,  peer_read,     peer_write,    peer_report,  peer_live};
 
 const char *const verdict_names[VERDICTS] = {"clean", "snapshot", "conflict", "version", "exact", "read", "write", "report"};
 
@@ -59,4 +63,21 @@ unsigned judge_listing(const struct judge *j, const struct log *l, struct buffer
         result = judge_next(j, l, b);
     }
     return orders;
+}
+
+uint64_t judge_stream(const struct judge *j, const struct stream *s, size_t at_once, struct live_buffers *b)
+{
+    uint64_t result = 0;
+    memset(b->state, 0, sizeof b->state);
+    memset(b->opened, 0, sizeof b->opened);
+    memset(b->rows, 0, sizeof b->rows);
+    memset(b->marks, 0, sizeof b->marks);
+    memset(b->edges, 0, sizeof b->edges);
+    for (size_t k = 0; k < s->steps; k += at_once) {
+        size_t count = s->steps - k < at_once ? s->steps - k : at_once;
+        result = j->live(b->state, KRUPOVESH_LIVE_STATE, b->opened, KRUPOVESH_LIVE_OPENED, b->rows, KRUPOVESH_LIVE_ROWS,
+                         b->marks, KRUPOVESH_LIVE_MARKS, b->edges, KRUPOVESH_LIVE_EDGES,
+                         s->numbers + 4 * k, 4 * count, b->answers + k, count);
+    }
+    return result;
 }

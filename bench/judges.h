@@ -3,6 +3,7 @@
 #define JUDGES_H
 
 #include "../include/krupovesh.h"
+#include "streams.h"
 #include "workloads.h"
 
 enum { VERDICTS = 8 };
@@ -34,7 +35,18 @@ uint64_t judge_next(const struct judge *j, const struct log *l, struct buffers *
 /* The version verdict's order and all that follow; how many there are. */
 unsigned judge_listing(const struct judge *j, const struct log *l, struct buffers *b);
 
-/* agree.c: how many times the two differ on the workloads, in an answer or in any byte. It says where. */
-unsigned disagreements(struct workload *room);
+/* What is lent to the live judge. */
+struct live_buffers {
+    uint16_t state[KRUPOVESH_LIVE_STATE], opened[KRUPOVESH_LIVE_OPENED], rows[KRUPOVESH_LIVE_ROWS];
+    uint64_t marks[KRUPOVESH_LIVE_MARKS], edges[KRUPOVESH_LIVE_EDGES];
+    uint16_t answers[MOST_STEPS];
+};
+
+/* A stream from the fresh state on, so many steps a call; the last call's answer. */
+uint64_t judge_stream(const struct judge *j, const struct stream *s, size_t at_once, struct live_buffers *b);
+
+/* agree.c: how many times the two differ on the workloads, in an answer or in any byte; or on the streams, in what they say to a step.
+ * It says where. */
+unsigned disagreements(struct workload *room, struct stream *stream);
 
 #endif

@@ -27,4 +27,8 @@ uint64_t peer_write(const uint16_t *log, size_t log_length, uint8_t *out, size_t
 
 uint64_t peer_report(const uint8_t *text, size_t text_length, uint8_t *out, size_t out_length);
 
+uint64_t peer_live(uint16_t *state, size_t state_length, uint16_t *opened, size_t opened_length, uint16_t *rows, size_t rows_length,
+                   uint64_t *marks, size_t marks_length, uint64_t *edges, size_t edges_length,
+                   const uint16_t *part, size_t part_length, uint16_t *answers, size_t answers_length);
+
 #endif

@@ -7,11 +7,11 @@
 
 #include "lent.h"
 
-enum { MOST_ORDERS = 64 };
+enum { MOST_ORDERS = 64, MOST_TEXT = 100000 };
 
 struct expected {
     char name[512];
-    uint8_t text[MOST_BYTES];
+    uint8_t text[MOST_TEXT];
     size_t text_length;
 
     /* The steps, by a reading of the text that is this test's own; only where the text is in form. */

@@ -8,12 +8,18 @@ enum { GUARD = 64, ROOM = GUARD + MOST_BYTES + GUARD };
 
 static const size_t right[BUFFERS] = {
     [ORDER] = KRUPOVESH_HANDED, [WORK] = KRUPOVESH_WORK, [WITNESS] = KRUPOVESH_WITNESS,
-    [STEPS] = KRUPOVESH_STEPS, [OUT] = KRUPOVESH_REPORT, [WRITTEN] = KRUPOVESH_TEXT};
+    [STEPS] = KRUPOVESH_STEPS, [OUT] = KRUPOVESH_REPORT, [WRITTEN] = KRUPOVESH_TEXT,
+    [STATE] = KRUPOVESH_LIVE_STATE, [OPEN] = KRUPOVESH_LIVE_OPENED, [ROWS] = KRUPOVESH_LIVE_ROWS,
+    [MARKS] = KRUPOVESH_LIVE_MARKS, [EDGES] = KRUPOVESH_LIVE_EDGES};
 static const size_t entry_size[BUFFERS] = {
-    [LOG] = 2, [TEXT] = 1, [ORDER] = 2, [WORK] = 1, [WITNESS] = 2, [STEPS] = 2, [OUT] = 1, [WRITTEN] = 1};
+    [LOG] = 2, [TEXT] = 1, [PART] = 2, [ANSWERS] = 2,
+    [ORDER] = 2, [WORK] = 1, [WITNESS] = 2, [STEPS] = 2, [OUT] = 1, [WRITTEN] = 1,
+    [STATE] = 2, [OPEN] = 2, [ROWS] = 2, [MARKS] = 8, [EDGES] = 8};
 static const char *const function_names[FUNCTIONS] = {
-    "clean", "snapshot", "conflict", "version", "exact", "next", "write", "read", "report"};
-static const char *const buffer_names[BUFFERS] = {"log", "text", "order", "work", "witness", "steps", "out", "written"};
+    "clean", "snapshot", "conflict", "version", "exact", "next", "write", "read", "report", "live"};
+static const char *const buffer_names[BUFFERS] = {
+    "log", "text", "part", "answers", "order", "work", "witness", "steps", "out", "written",
+    "state", "opened", "rows", "marks", "edges"};
 
 /* The buffers of each function, one bit each. */
 static const unsigned taken[FUNCTIONS] = {
@@ -25,15 +31,18 @@ static const unsigned taken[FUNCTIONS] = {
     [NEXT] = 1 << LOG | 1 << ORDER | 1 << WORK | 1 << WITNESS,
     [WRITE] = 1 << LOG | 1 << WRITTEN,
     [READ] = 1 << TEXT | 1 << STEPS,
-    [REPORT] = 1 << TEXT | 1 << OUT};
+    [REPORT] = 1 << TEXT | 1 << OUT,
+    [LIVE] = 1 << STATE | 1 << OPEN | 1 << ROWS | 1 << MARKS | 1 << EDGES | 1 << PART | 1 << ANSWERS};
 
 /* A buffer stands behind its first guard, and its second guard stands behind it. */
 static union {
     uint8_t bytes[ROOM];
     uint16_t numbers[ROOM / 2];
+    uint64_t words[ROOM / 8];
 } room[BUFFERS];
 static uint8_t due[BUFFERS][ROOM];
 static size_t length[BUFFERS];
+static int may_change[BUFFERS];
 
 unsigned long calls, agreeing;
 
@@ -78,6 +87,7 @@ void lend(enum buffer b, size_t entries, const void *contents)
 {
     size_t bytes = entries * entry_size[b];
     length[b] = entries;
+    may_change[b] = 0;
     make_dirty(room[b].bytes, GUARD + bytes + GUARD);
     if (contents != NULL)
         memcpy(room[b].bytes + GUARD, contents, bytes);
@@ -98,6 +108,17 @@ void make_due(enum buffer b, const void *contents, size_t entries)
         memcpy(due[b] + GUARD, contents, entries * entry_size[b]);
 }
 
+void let_change(enum buffer b)
+{
+    may_change[b] = 1;
+}
+
+void keep(enum buffer b)
+{
+    may_change[b] = 0;
+    memcpy(due[b] + GUARD, room[b].bytes + GUARD, length[b] * entry_size[b]);
+}
+
 static uint8_t *bytes_of(enum buffer b)
 {
     return room[b].bytes + GUARD;
@@ -111,6 +132,18 @@ const uint8_t *held(enum buffer b)
 static uint16_t *numbers_of(enum buffer b)
 {
     return room[b].numbers + GUARD / 2;
+}
+
+static uint64_t *words_of(enum buffer b)
+{
+    return room[b].words + GUARD / 8;
+}
+
+static uint64_t call_live(void)
+{
+    return krupovesh_live(numbers_of(STATE), length[STATE], numbers_of(OPEN), length[OPEN], numbers_of(ROWS), length[ROWS],
+                          words_of(MARKS), length[MARKS], words_of(EDGES), length[EDGES],
+                          numbers_of(PART), length[PART], numbers_of(ANSWERS), length[ANSWERS]);
 }
 
 static uint64_t call(enum function f)
@@ -130,9 +163,19 @@ static uint64_t call(enum function f)
         return krupovesh_next(log, length[LOG], order, length[ORDER], work, length[WORK], witness, length[WITNESS]);
     case WRITE: return krupovesh_write(log, length[LOG], written, length[WRITTEN]);
     case READ: return krupovesh_read(text, length[TEXT], steps, length[STEPS]);
+    case LIVE: return call_live();
     default:
         return krupovesh_report(text, length[TEXT], out, length[OUT]);
     }
+}
+
+/* Whether a buffer, and what is around it, is as due. */
+static int is_as_due(enum buffer b)
+{
+    const uint8_t *is = room[b].bytes, *ought = due[b];
+    size_t bytes = length[b] * entry_size[b];
+    return memcmp(is, ought, GUARD) == 0 && memcmp(is + GUARD + bytes, ought + GUARD + bytes, GUARD) == 0
+        && (may_change[b] || memcmp(is + GUARD, ought + GUARD, bytes) == 0);
 }
 
 uint64_t try_call(enum function f, uint64_t due_answer, const char *about)
@@ -143,7 +186,7 @@ uint64_t try_call(enum function f, uint64_t due_answer, const char *about)
         printf("%s, %s: answers %llx in place of %llx\n", about, function_names[f], (unsigned long long)given,
                (unsigned long long)due_answer);
     for (enum buffer b = 0; b < BUFFERS; b++) {
-        if (takes(f, b) && memcmp(room[b].bytes, due[b], GUARD + length[b] * entry_size[b] + GUARD) != 0) {
+        if (takes(f, b) && !is_as_due(b)) {
             printf("%s, %s: the buffer %s, or a byte around it, is not as due\n", about, function_names[f], buffer_names[b]);
             agrees = 0;
         }
@@ -151,4 +194,12 @@ uint64_t try_call(enum function f, uint64_t due_answer, const char *about)
     calls++;
     agreeing += (unsigned long)agrees;
     return given;
+}
+
+void note(int is_so, const char *if_not)
+{
+    if (!is_so)
+        printf("%s\n", if_not);
+    calls++;
+    agreeing += (unsigned long)is_so;
 }

@@ -8,13 +8,18 @@
 #include "../include/krupovesh.h"
 
 /* No buffer that is lent is longer. */
-enum { MOST_BYTES = 100000 };
+enum { MOST_BYTES = 600000 };
 
-/* Those up to WRITE take a log. OUT is the report's buffer, and WRITTEN the writer's. */
-enum function { CLEAN, SNAPSHOT, CONFLICT, VERSION, EXACT, NEXT, WRITE, READ, REPORT, FUNCTIONS };
-enum buffer { LOG, TEXT, ORDER, WORK, WITNESS, STEPS, OUT, WRITTEN, BUFFERS };
+/* Those up to WRITE take a log. OUT is the report's buffer, WRITTEN the writer's, and STATE to EDGES are the live judge's state. */
+enum function { CLEAN, SNAPSHOT, CONFLICT, VERSION, EXACT, NEXT, WRITE, READ, REPORT, LIVE, FUNCTIONS };
+enum buffer {
+    LOG, TEXT, PART, ANSWERS,
+    ORDER, WORK, WITNESS, STEPS, OUT, WRITTEN,
+    STATE, OPEN, ROWS, MARKS, EDGES,
+    BUFFERS
+};
 
-/* Whether a function takes a buffer; the length a buffer has to have, 0 where any will do. */
+/* Whether a function takes a buffer; the length a buffer has to have, 0 where any will do, or another buffer decides. */
 int takes(enum function f, enum buffer b);
 size_t right_length(enum buffer b);
 
@@ -27,7 +32,13 @@ void lend_for(enum function f);
 /* The buffer is due to hold these entries, and zeros behind them. */
 void make_due(enum buffer b, const void *contents, size_t entries);
 
-/* What a byte buffer holds now. */
+/* The buffer may hold anything after the calls that follow; only what is around it is due to stay. */
+void let_change(enum buffer b);
+
+/* The buffer is due to stay as it is now. */
+void keep(enum buffer b);
+
+/* What a buffer holds now, as bytes. */
 const uint8_t *held(enum buffer b);
 
 /* An answer, put together from its parts. */
@@ -38,7 +49,10 @@ uint64_t wrong_read(unsigned step, unsigned writer, unsigned commit);
  * buffer, and around it, what is due. */
 uint64_t try_call(enum function f, uint64_t due_answer, const char *about);
 
-/* How many calls there were, and how many agree. */
+/* One more thing that has to be so; what it means if it is not. */
+void note(int is_so, const char *if_not);
+
+/* How many calls and other things were tried, and how many agree. */
 extern unsigned long calls, agreeing;
 
 #endif

@@ -1,11 +1,12 @@
 /* Tests the C face from outside: wrong lengths, logs and texts with what the second program says of them, dirty buffers everywhere.
- * Called with three files: what `second report`, `second orders` and `second write` have said of the same texts.
+ * Called with four files: what `second report`, `second orders` and `second write` have said of the same texts, and `second streams`.
  * The last line says how many calls agree; the exit status is 0 exactly when all do. */
 #include <stdio.h>
 #include <string.h>
 
 #include "expected.h"
 #include "lent.h"
+#include "live.h"
 
 static struct expected e;
 
@@ -265,13 +266,13 @@ static void try_report(void)
 int main(int count, char **words)
 {
     unsigned long texts = 0;
-    if (count != 4) {
-        fprintf(stderr, "test REPORTS ORDERS WRITTEN\n");
+    if (count != 5) {
+        fprintf(stderr, "test REPORTS ORDERS WRITTEN STREAMS\n");
         return 2;
     }
     struct said said = {open_words(words[1]), open_words(words[2]), open_words(words[3])};
 
-    for (enum function f = CLEAN; f < FUNCTIONS; f++)
+    for (enum function f = CLEAN; f <= REPORT; f++)
         try_lengths(f);
     for (enum function f = CLEAN; f <= WRITE; f++)
         try_runs(f);
@@ -286,6 +287,7 @@ int main(int count, char **words)
         try_swaps();
         try_write();
     }
-    printf("face: %lu of %lu calls agree, over %lu texts\n", agreeing, calls, texts);
-    return agreeing == calls && texts != 0 ? 0 : 1;
+    unsigned long streams = try_live(words[4]);
+    printf("face: %lu of %lu calls agree, over %lu texts and %lu streams\n", agreeing, calls, texts, streams);
+    return agreeing == calls && texts != 0 && streams != 0 ? 0 : 1;
 }

@@ -1,4 +1,4 @@
-/* The C face of Krupovesh: the verdicts over a log's numbers, the text reader, the writer and the report.
+/* The C face of Krupovesh: the verdicts over a log's numbers, the text reader, the writer, the report, and the live judge.
  *
  * Each buffer is a pointer, which is never null, and a length in numbers or bytes. Any length and any contents may be handed in.
  * No two buffers of a call may overlap.
@@ -21,12 +21,13 @@
  *                                                                                for the reader itself
  *     KRUPOVESH_WRITE_AT      step of the commit       the partner               0
  *     KRUPOVESH_ACCEPTED      steps read, or bytes     0                         0
- *                             written
+ *                             written; 0 from the
+ *                             live judge
  *
  * Writer 0 is the store before the log began.
  *
  * After a refusal every lent number and byte is as it was. After any other answer the work area is all 0, and a witness buffer holds
- * the order or the cycle, if there is one, and then zeros.
+ * the order or the cycle, if there is one, and then zeros. What the live judge keeps in its state is its own.
  *
  * An entry of the witness is three numbers: a transaction, a kind and an object. On a cycle these are the kind and the object of the
  * dependency that leads to the following member, and from the last one back to the first. In an order both are 0. */
@@ -51,6 +52,13 @@ extern "C" {
 #define KRUPOVESH_REPORT 4096
 #define KRUPOVESH_TEXT 33803
 
+/* How many numbers each buffer of the live judge's state has to have. */
+#define KRUPOVESH_LIVE_STATE 3
+#define KRUPOVESH_LIVE_OPENED 256
+#define KRUPOVESH_LIVE_ROWS 8643
+#define KRUPOVESH_LIVE_MARKS 256
+#define KRUPOVESH_LIVE_EDGES 256
+
 /* The kinds of dependency: a write after a write, a read after a write, a write after a read. */
 #define KRUPOVESH_WW 1
 #define KRUPOVESH_WR 2
@@ -68,6 +76,12 @@ extern "C" {
 #define KRUPOVESH_READ_AT 8
 #define KRUPOVESH_WRITE_AT 9
 #define KRUPOVESH_ACCEPTED 10
+
+/* What the live judge says to a step that it does not refuse. */
+#define KRUPOVESH_LIVE_TAKEN 64
+#define KRUPOVESH_LIVE_YES 65
+#define KRUPOVESH_LIVE_BREACH 66
+#define KRUPOVESH_LIVE_CLOSED 67
 
 /* The parts of an answer. */
 #define KRUPOVESH_KIND(answer) ((uint16_t)(answer))
@@ -107,6 +121,35 @@ uint64_t krupovesh_write(const uint16_t *log, size_t log_length, uint8_t *out, s
 
 /* Writes the report of a text, zeros behind it. Refused, always with number 12, or accepted with the number of bytes. */
 uint64_t krupovesh_report(const uint8_t *text, size_t text_length, uint8_t *out, size_t out_length);
+
+/* Judges the next part of a log while it is being written: any number of whole steps, none too. The five buffers of the state are
+ * lent to every call, and carry it from part to part; all of them zero is the fresh state, in which nothing has begun. How the log
+ * is cut into parts makes no difference.
+ *
+ * Transactions are 1..65535 and begin in rising order. Each one that begins is kept, and there is room for 128. Sources may be any
+ * number on a read. There is no limit on steps.
+ *
+ * Each step gets one entry of the answers, which are as many as the steps of the part:
+ *
+ *     3, 4, 5, 6, 8             as for a log, with 4 for transaction 0 alone: the step was refused, and is as if it had not come
+ *     7                         refused: a begin that is not above every one before it
+ *     18                        refused: a begin, and 128 are kept already
+ *     KRUPOVESH_LIVE_TAKEN      a good step that is no commit
+ *     KRUPOVESH_LIVE_YES        a good commit
+ *     KRUPOVESH_LIVE_BREACH     with this commit the log so far is no snapshot any more
+ *     KRUPOVESH_LIVE_CLOSED     with this commit the versions of the log so far have a cycle
+ *
+ * The last two stand: whichever came first is the answer to every later step, good or bad. The log so far is read with open
+ * transactions as aborted. A read from a source that had not written the object, or after the reader's own write from another, is a
+ * wrong one, and makes a breach of the reader's commit.
+ *
+ * Refused with number 1 where the part is no whole number of steps, or else with 12 where a buffer has another length: nothing lent
+ * is changed then. Otherwise accepted. Any contents of the state are safe to hand in; what is said from a state that was not
+ * reached from the fresh one means nothing. */
+uint64_t krupovesh_live(uint16_t *state, size_t state_length, uint16_t *opened, size_t opened_length,
+                        uint16_t *rows, size_t rows_length, uint64_t *marks, size_t marks_length,
+                        uint64_t *edges, size_t edges_length, const uint16_t *part, size_t part_length,
+                        uint16_t *answers, size_t answers_length);
 
 #ifdef __cplusplus
 }

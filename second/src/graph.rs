@@ -1,39 +1,43 @@
-//! Graphs on the vertices 1 to 128: the first order that keeps every edge,
-//! the first order after a given one, the first shortest cycle.
+//! Graphs on vertices from 1 on: the first order that keeps every edge, the
+//! first order after a given one, the first shortest cycle.
 
 use crate::permutations;
 
-const VERTICES: usize = 128;
 /// Up to this many members every sequence is tried.
 const FEW: usize = 7;
 
 /// Members, lowest first, and edges between different members.
 pub struct Graph {
     members: Vec<usize>,
-    takes_part: [bool; VERTICES + 1],
-    edges: Vec<[bool; VERTICES + 1]>,
+    takes_part: Vec<bool>,
+    edges: Vec<Vec<bool>>,
 }
 
 impl Graph {
     pub fn new(mut members: Vec<usize>) -> Graph {
         members.sort();
-        let mut takes_part = [false; VERTICES + 1];
+        let size = members.last().map_or(1, |highest| highest + 1);
+        let mut takes_part = vec![false; size];
         for &member in &members {
             takes_part[member] = true;
         }
         Graph {
             members,
             takes_part,
-            edges: vec![[false; VERTICES + 1]; VERTICES + 1],
+            edges: vec![vec![false; size]; size],
         }
     }
 
     /// Adds an edge. One from a vertex to itself, or at a vertex that takes
     /// no part, is dropped.
     pub fn join(&mut self, from: usize, to: usize) {
-        if from != to && self.takes_part[from] && self.takes_part[to] {
+        if from != to && self.has(from) && self.has(to) {
             self.edges[from][to] = true;
         }
+    }
+
+    fn has(&self, vertex: usize) -> bool {
+        self.takes_part.get(vertex) == Some(&true)
     }
 
     pub fn leads(&self, from: usize, to: usize) -> bool {
@@ -162,7 +166,7 @@ impl Graph {
     /// The lowest unplaced vertex, not below the least, with no unplaced
     /// predecessor.
     fn lowest_free(&self, placed: &[usize], least: usize) -> Option<usize> {
-        let mut is_placed = [false; VERTICES + 1];
+        let mut is_placed = vec![false; self.takes_part.len()];
         for &vertex in placed {
             is_placed[vertex] = true;
         }
@@ -198,8 +202,8 @@ impl Graph {
 
     /// For each vertex the number of edges on a shortest way to the lowest
     /// one, over members that are not lower.
-    fn ways_back(&self, lowest: usize) -> [Option<usize>; VERTICES + 1] {
-        let mut way = [None; VERTICES + 1];
+    fn ways_back(&self, lowest: usize) -> Vec<Option<usize>> {
+        let mut way = vec![None; self.takes_part.len()];
         way[lowest] = Some(0);
         let mut ring = vec![lowest];
         let mut distance = 0;

@@ -1,40 +1,66 @@
 //! Counts how often the made texts reach each outcome, and which outcomes
 //! they miss.
 
+mod live;
+
 use std::collections::BTreeMap;
 
-use crate::make::{Sort, SORTS};
+use crate::make::{stream_of, Sort, SORTS};
 use crate::reasons::{Dependency, KINDS};
 use crate::report::report;
+use crate::watch::watch;
 use crate::write::LONGEST;
 
 /// The lines of the histogram, and the outcomes that were never reached.
 pub fn histogram(seed: u64, count: usize) -> (Vec<String>, Vec<String>) {
-    let mut lines = Vec::new();
-    let mut missed = Vec::new();
+    let mut table = Table::default();
     for sort in SORTS {
-        let mut met: BTreeMap<String, usize> = BTreeMap::new();
-        for index in 1..=count {
-            let text = sort.text(seed, index);
-            for outcome in outcomes(sort, &text, &report(&text)) {
-                *met.entry(outcome).or_default() += 1;
-            }
-        }
-        let name = sort.name();
-        lines.extend(
-            met.iter()
-                .map(|(outcome, times)| format!("{name} {outcome} {times}")),
-        );
-        let absent = wanted(sort)
-            .into_iter()
-            .filter(|outcome| !met.contains_key(*outcome));
-        missed.extend(absent.map(|outcome| format!("{name} {outcome}")));
+        table.add_texts(sort, seed, count);
     }
-    (lines, missed)
+    table.add_streams(seed, count);
+    (table.lines, table.missed)
+}
+
+#[derive(Default)]
+pub struct Table {
+    pub lines: Vec<String>,
+    pub missed: Vec<String>,
+}
+
+impl Table {
+    pub fn add_texts(&mut self, sort: Sort, seed: u64, count: usize) {
+        let met = (1..=count).flat_map(|index| outcomes(sort, &sort.text(seed, index)));
+        self.add(sort.name(), met, wanted(sort));
+    }
+
+    pub fn add_streams(&mut self, seed: u64, count: usize) {
+        let met = (1..=count).flat_map(|index| live::of_stream(&stream_of(seed, index)));
+        self.add("streams", met, live::STREAMS.to_vec());
+    }
+
+    /// How often the texts of this name have met each outcome, and which of
+    /// those wanted they have not.
+    fn add(&mut self, name: &str, all: impl Iterator<Item = String>, wanted: Vec<&str>) {
+        let mut met: BTreeMap<String, usize> = BTreeMap::new();
+        for outcome in all {
+            *met.entry(outcome).or_default() += 1;
+        }
+        let absent = wanted.into_iter().filter(|&one| !met.contains_key(one));
+        self.missed
+            .extend(absent.map(|one| format!("{name} {one}")));
+        let lines = met
+            .iter()
+            .map(|(one, times)| format!("{name} {one} {times}"));
+        self.lines.extend(lines);
+    }
 }
 
 /// The outcomes of one text.
-fn outcomes(sort: Sort, text: &[u8], report: &str) -> Vec<String> {
+fn outcomes(sort: Sort, text: &[u8]) -> Vec<String> {
+    if sort == Sort::Live {
+        return live::of_text(text, &watch(text));
+    }
+    let report = &report(text);
     let first = report.split(' ').next().unwrap_or("");
     if first == "refused=16" {
         return vec![format!("refused=16 {}", sort_of_place(text, report))];
@@ -44,8 +70,8 @@ fn outcomes(sort: Sort, text: &[u8], report: &str) -> Vec<String> {
     }
     match sort {
         Sort::Small => verdicts(report),
-        Sort::Damaged | Sort::Texts => vec!["accepted".to_string()],
         Sort::Limits => [verdicts(report), extremes(text, report)].concat(),
+        _ => vec!["accepted".to_string()],
     }
 }
 
@@ -174,6 +200,7 @@ fn wanted(sort: Sort) -> Vec<&'static str> {
         Sort::Damaged => DAMAGED.to_vec(),
         Sort::Texts => TEXTS.to_vec(),
         Sort::Limits => LIMITS.to_vec(),
+        Sort::Live => live::TEXTS.to_vec(),
     }
 }
 

@@ -1,5 +1,5 @@
 //! The log: its steps, the numbers 1 to 11 that turn a run away, and who did
-//! what in a log that passes.
+//! what in a log that passes. The live judge checks its steps with the same words.
 
 /// A log has at most this many steps.
 pub const STEPS: usize = 1024;
@@ -89,7 +89,7 @@ pub fn check(run: &[u16]) -> Result<Log, Refusal> {
 /// The step with these numbers after the earlier ones, or the first of 3 to
 /// 9 that applies to it.
 fn check_step(earlier: &[Step], numbers: &[u16]) -> Result<Step, u16> {
-    let step = check_numbers(numbers)?;
+    let step = check_numbers(numbers, TRANSACTIONS)?;
     let begun = begins(earlier, step.tx);
     if step.kind == Kind::Begin && begun {
         return Err(7);
@@ -103,15 +103,16 @@ fn check_step(earlier: &[Step], numbers: &[u16]) -> Result<Step, u16> {
     Ok(step)
 }
 
-/// 3 to 6: what the table says of one step's own numbers.
-fn check_numbers(numbers: &[u16]) -> Result<Step, u16> {
+/// 3 to 6: what the table says of one step's own numbers, with transactions and
+/// sources up to the highest.
+pub fn check_numbers(numbers: &[u16], highest: usize) -> Result<Step, u16> {
     let kind = Kind::of(numbers[0]).ok_or(3u16)?;
     let (tx, obj, from) = (
         numbers[1] as usize,
         numbers[2] as usize,
         numbers[3] as usize,
     );
-    if !(1..=TRANSACTIONS).contains(&tx) {
+    if !(1..=highest).contains(&tx) {
         return Err(4);
     }
     let object_fits = match kind {
@@ -122,7 +123,7 @@ fn check_numbers(numbers: &[u16]) -> Result<Step, u16> {
         return Err(5);
     }
     let source_fits = match kind {
-        Kind::Read => from <= TRANSACTIONS,
+        Kind::Read => from <= highest,
         _ => from == 0,
     };
     if !source_fits {
@@ -136,15 +137,15 @@ fn check_numbers(numbers: &[u16]) -> Result<Step, u16> {
     })
 }
 
-fn begins(steps: &[Step], tx: usize) -> bool {
+pub fn begins(steps: &[Step], tx: usize) -> bool {
     steps.iter().any(|s| s.kind == Kind::Begin && s.tx == tx)
 }
 
-fn is_ended(steps: &[Step], tx: usize) -> bool {
+pub fn is_ended(steps: &[Step], tx: usize) -> bool {
     steps.iter().any(|s| s.kind.ends() && s.tx == tx)
 }
 
-fn wrote(steps: &[Step], tx: usize, obj: usize) -> bool {
+pub fn wrote(steps: &[Step], tx: usize, obj: usize) -> bool {
     steps.iter().any(|s| s.writes(tx, obj))
 }
 
@@ -152,7 +153,7 @@ fn lowest_not_ended(steps: &[Step]) -> Option<usize> {
     (1..=TRANSACTIONS).find(|&tx| begins(steps, tx) && !is_ended(steps, tx))
 }
 
-/// A log to which none of 1 to 11 applies.
+/// A log to which none of 1 to 11 applies, or the live judge's log so far.
 pub struct Log {
     pub steps: Vec<Step>,
     begin: Vec<Option<usize>>,
@@ -161,10 +162,11 @@ pub struct Log {
 }
 
 impl Log {
-    fn new(steps: Vec<Step>) -> Log {
-        let mut begin = vec![None; TRANSACTIONS + 1];
-        let mut commit = vec![None; TRANSACTIONS + 1];
-        let mut writes = vec![[false; OBJECTS]; TRANSACTIONS + 1];
+    pub fn new(steps: Vec<Step>) -> Log {
+        let highest = steps.iter().map(|step| step.tx).max().unwrap_or(0);
+        let mut begin = vec![None; highest + 1];
+        let mut commit = vec![None; highest + 1];
+        let mut writes = vec![[false; OBJECTS]; highest + 1];
         for (k, step) in steps.iter().enumerate() {
             match step.kind {
                 Kind::Begin => begin[step.tx] = Some(k),
@@ -183,9 +185,8 @@ impl Log {
 
     /// The committed transactions, lowest first.
     pub fn committed(&self) -> Vec<usize> {
-        (1..=TRANSACTIONS)
-            .filter(|&tx| self.is_committed(tx))
-            .collect()
+        let all = 1..self.commit.len();
+        all.filter(|&tx| self.is_committed(tx)).collect()
     }
 
     pub fn is_committed(&self, tx: usize) -> bool {

@@ -1,9 +1,11 @@
-//! The commands: report, orders, write, keep, graphs, make, every, histogram.
+//! The commands: report, orders, write, keep, watch, graphs, make, every,
+//! streams, histogram.
 
 mod every;
 mod graph;
 mod graphs;
 mod histogram;
+mod live;
 mod log;
 mod make;
 mod permutations;
@@ -11,10 +13,12 @@ mod reasons;
 mod replay;
 mod report;
 mod rng;
+mod streams;
 #[cfg(test)]
 mod tests;
 mod text;
 mod verdicts;
+mod watch;
 mod write;
 
 use std::ffi::OsString;
@@ -26,9 +30,11 @@ const USAGE: &str = "second report [FILE ..]
 second orders [--most N] [FILE ..]
 second write [FILE ..]
 second keep T,T,.. [FILE ..]
+second watch [FILE ..]
 second graphs
-second make small|damaged|texts|limits SEED COUNT DIR
+second make small|damaged|texts|limits|live SEED COUNT DIR
 second every [--count] STEPS TRANSACTIONS OBJECTS
+second streams SEED COUNT
 second histogram SEED COUNT";
 
 fn main() -> ExitCode {
@@ -58,13 +64,14 @@ fn run(args: &[OsString], out: &mut dyn Write) -> io::Result<bool> {
         ["orders", ..] => orders(&args[1..], None, out),
         ["write", ..] => answer_each(&args[1..], out, &write::write),
         ["keep", list, ..] => keep(list, &args[2..], out),
+        ["watch", ..] => answer_each(&args[1..], out, &watch::watch),
         ["graphs"] => out.write_all(graphs::lines().as_bytes()).map(|_| true),
-        ["make", kind, seed, count, _] => {
-            match (make::Sort::named(kind), seed.parse(), count.parse()) {
-                (Some(sort), Ok(seed), Ok(count)) => write_texts(sort, seed, count, &args[4]),
-                _ => usage(),
-            }
-        }
+        ["make", kind, seed, count, _] => match make::Sort::named(kind) {
+            Some(sort) => seeded(seed, count, |seed, count| {
+                write_texts(sort, seed, count, &args[4])
+            }),
+            None => usage(),
+        },
         ["every", "--count", steps, transactions, objects] => {
             match bounds(steps, transactions, objects) {
                 Some(bounds) => writeln!(out, "{}", every::count_all(&bounds)).map(|_| true),
@@ -75,10 +82,24 @@ fn run(args: &[OsString], out: &mut dyn Write) -> io::Result<bool> {
             Some(bounds) => every::write_all(&bounds, out).map(|_| true),
             None => usage(),
         },
-        ["histogram", seed, count] => match (seed.parse(), count.parse()) {
-            (Ok(seed), Ok(count)) => histogram(seed, count, out),
-            _ => usage(),
-        },
+        ["streams", seed, count] => seeded(seed, count, |seed, count| {
+            streams::write_all(seed, count, out).map(|_| true)
+        }),
+        ["histogram", seed, count] => {
+            seeded(seed, count, |seed, count| histogram(seed, count, out))
+        }
+        _ => usage(),
+    }
+}
+
+/// Runs what takes a seed and a count.
+fn seeded(
+    seed: &str,
+    count: &str,
+    run: impl FnOnce(u64, usize) -> io::Result<bool>,
+) -> io::Result<bool> {
+    match (seed.parse(), count.parse()) {
+        (Ok(seed), Ok(count)) => run(seed, count),
         _ => usage(),
     }
 }

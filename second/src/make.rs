@@ -1,14 +1,19 @@
-//! Makes texts of four kinds: small logs, damaged logs, damaged texts, and
-//! logs at the limits.
+//! Makes texts of five kinds: small logs, damaged logs, damaged texts, logs at
+//! the limits, and streams to be watched. Streams of numbers, too.
 
+mod bad;
 mod damaged;
-mod draft;
+pub mod draft;
 mod limits;
+mod lines;
+mod manner;
 mod play;
 mod small;
+mod stream;
 mod texts;
 
 use crate::rng::Rng;
+pub use stream::Answered;
 
 #[derive(Clone, Copy, Debug, PartialEq, Eq)]
 pub enum Sort {
@@ -16,9 +21,16 @@ pub enum Sort {
     Damaged,
     Texts,
     Limits,
+    Live,
 }
 
-pub const SORTS: [Sort; 4] = [Sort::Small, Sort::Damaged, Sort::Texts, Sort::Limits];
+pub const SORTS: [Sort; 5] = [
+    Sort::Small,
+    Sort::Damaged,
+    Sort::Texts,
+    Sort::Limits,
+    Sort::Live,
+];
 
 impl Sort {
     pub fn name(self) -> &'static str {
@@ -27,6 +39,7 @@ impl Sort {
             Sort::Damaged => "damaged",
             Sort::Texts => "texts",
             Sort::Limits => "limits",
+            Sort::Live => "live",
         }
     }
 
@@ -42,6 +55,13 @@ impl Sort {
             Sort::Damaged => damaged::draft(rng, index).text(),
             Sort::Texts => texts::text(rng, index),
             Sort::Limits => limits::text(rng, index),
+            Sort::Live => lines::text(rng, index),
         }
     }
+}
+
+/// The stream of numbers with this index (from 1) of a seed, with its answers.
+pub fn stream_of(seed: u64, index: usize) -> Vec<Answered> {
+    let salt = SORTS.len() as u64 + 1;
+    stream::stream(&mut Rng::new(seed, salt, index as u64), index)
 }

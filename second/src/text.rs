@@ -68,12 +68,12 @@ fn first_line(text: &[u8]) -> Option<(&[u8], &[u8])> {
 }
 
 /// `steps=N`
-fn header_number(line: &[u8]) -> Option<u16> {
+pub fn header_number(line: &[u8]) -> Option<u16> {
     number(line.strip_prefix(b"steps=")?)
 }
 
 /// `op=WORD tx=T obj=X from=S`, one blank between.
-fn step_numbers(line: &[u8]) -> Option<[u16; 4]> {
+pub fn step_numbers(line: &[u8]) -> Option<[u16; 4]> {
     let parts: Vec<&[u8]> = line.split(|&byte| byte == b' ').collect();
     if parts.len() != 4 {
         return None;

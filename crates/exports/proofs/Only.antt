@@ -10,7 +10,10 @@ use Rattle.text.specs.WriteCall.{WriteCall}
 use Rattle.text.proofs.Only.{read-call-one}
 use Rattle.text.proofs.ReportOnly.{report-call-one}
 use Rattle.text.proofs.WriteCalls.{write-call-one}
-use Rattle.exports.specs.Packed.{Numbers, clean-numbers, snapshot-numbers, witness-numbers, text-numbers, packed, Packs, packs}
+use Rattle.live.specs.LiveCall.{Buffers, LiveCall}
+use Rattle.live.specs.Live.{Calls}
+use Rattle.live.proofs.ByCalls.{live-call-one}
+use Rattle.exports.specs.Packed.{Numbers, clean-numbers, snapshot-numbers, witness-numbers, text-numbers, live-numbers, packed, Packs, packs}
 
 -- two calls that allow one answer, and leave one thing, have one number
 pub packs-one : {A Left : Type 0} {call call′ : A → Type 0} {numbers : A → Numbers} {r s : ℕ} → ((a b : A) → call a → call′ b → (a ≡ b) × Left)
@@ -51,3 +54,8 @@ module _ {text buffer : List ℕ} {r s : ℕ} {v w : List ℕ} where
 module _ (log : List ℕ) {out : List ℕ} {r s : ℕ} {v w : List ℕ} where
   pub packed-write-one : Packs (λ a. WriteCall log out a v) text-numbers r → Packs (λ a. WriteCall log out a w) text-numbers s → (r ≡ s) × (v ≡ w)
   packed-write-one = packs-one (λ a b c d. write-call-one log c d)
+
+-- the live judge, on buffers that were reached by calls
+pub packed-live-one : {run said part answers x y : List ℕ} {b left left′ : Buffers} {r s : ℕ} → Calls run said b
+    → Packs (λ a. LiveCall b part answers a left x) live-numbers r → Packs (λ a. LiveCall b part answers a left′ y) live-numbers s → (r ≡ s) × (x ≡ y)
+packed-live-one k = packs-one (λ a b c d. live-call-one k c d)

@@ -28,8 +28,10 @@ use Rattle.text.specs.ReportCall.{ReportCall}
 use Rattle.text.specs.WriteCall.{WriteCall}
 use Rattle.text.specs.declared.TextAnswer.{TextAnswer}
 use Rattle.text.specs.declared.TextAnswer.the-variants as text-answer
-use Rattle.exports.specs.Packed.{Numbers, fault-numbers, clean-numbers, read-numbers, snapshot-numbers, witness-numbers, text-numbers, packed, Packs, packs}
-use Rattle.exports.proofs.Values.{Short, clean-short, snapshot-short, conflict-short, version-short, exact-short, next-short, read-short, report-short, write-short}
+use Rattle.live.specs.declared.LiveAnswer.{LiveAnswer}
+use Rattle.live.specs.LiveCall.{Buffers, LiveCall}
+use Rattle.exports.specs.Packed.{Numbers, fault-numbers, clean-numbers, read-numbers, snapshot-numbers, witness-numbers, text-numbers, live-numbers, packed, Packs, packs}
+use Rattle.exports.proofs.Values.{Short, clean-short, snapshot-short, conflict-short, version-short, exact-short, next-short, read-short, report-short, write-short, live-short}
 
 -- the header's macros
 unfoldable pub kind-of : ℕ → ℕ
@@ -90,6 +92,9 @@ module _ {text buffer buffer′ : List ℕ} {r : ℕ} where
 module _ (log : List ℕ) {out out′ : List ℕ} {r : ℕ} where
   pub write-parts : Packs (λ a. WriteCall log out a out′) text-numbers r → Parts (λ a. WriteCall log out a out′) text-numbers r
   write-parts = parts-told (λ a c. write-short log out c)
+
+pub live-parts : {part answers answers′ : List ℕ} {b left : Buffers} {r : ℕ} → Packs (λ a. LiveCall b part answers a left answers′) live-numbers r → Parts (λ a. LiveCall b part answers a left answers′) live-numbers r
+live-parts = parts-told (λ a c. live-short c)
 
 -- THE NUMBERS TELL THE ANSWER
 -- what has a way back is told apart
@@ -189,3 +194,14 @@ text-numbers-one = apart text-numbers back told
     told : (a : TextAnswer) → back (text-numbers a) ≡ a
     told (text-answer.Refused n p) = refl
     told (text-answer.Accepted n) = refl
+
+pub live-numbers-one : {a b : LiveAnswer} → live-numbers a ≡ live-numbers b → a ≡ b
+unfolding live-numbers if_then_else_ _is_
+live-numbers-one = apart live-numbers back told
+  where
+    back : Numbers → LiveAnswer
+    back n = if n .kind is 0 then LiveAnswer.Refused (n .first) else LiveAnswer.Accepted
+
+    told : (a : LiveAnswer) → back (live-numbers a) ≡ a
+    told (LiveAnswer.Refused n) = refl
+    told LiveAnswer.Accepted = refl

@@ -34,7 +34,11 @@ use Rattle.text.specs.declared.TextAnswer.{TextAnswer}
 use Rattle.text.proofs.Room.{read-within, report-within, says-few, report-fits}
 use Rattle.text.proofs.Saying.{longest-text}
 use Rattle.text.proofs.WriteCalls.{write-passed, write-within}
-use Rattle.exports.specs.Packed.{Numbers, _with_and_, _with_and_then_, fault-numbers, clean-numbers, read-numbers, snapshot-numbers, witness-numbers, text-numbers, packed}
+use Rattle.live.specs.declared.LiveAnswer.{LiveAnswer}
+use Rattle.live.specs.LiveCall as live-call
+use Rattle.live.specs.LiveCall.{Buffers, LiveCall}
+use Rattle.live.proofs.Calling.{call-within}
+use Rattle.exports.specs.Packed.{Numbers, _with_and_, _with_and_then_, fault-numbers, clean-numbers, read-numbers, snapshot-numbers, witness-numbers, text-numbers, live-numbers, packed}
 use Rattle.exports.specs.Inner.Small.{Small}
 
 -- 16 bits each
@@ -157,3 +161,8 @@ unfolding text-numbers said-length
 write-short log out =
     call-short text-numbers (λ n p e. refused-short (write-within log out n p (sym e)))
     (λ w e (v : w ≡ text-of log). short (omega arith) (omega (arith, ap length v, longest-text log (write-passed log out (sym e)))) (omega arith))
+
+pub live-short : {b left : Buffers} {part answers answers′ : List ℕ} {r : LiveAnswer} → LiveCall b part answers r left answers′ → Short (live-numbers r)
+unfolding live-numbers
+live-short {b} {part = part} {answers} (live-call.turned-away n p e x y z) = rw x (short (omega arith) (omega (arith, call-within b part answers n p (sym e) .0)) (omega arith))
+live-short (live-call.answered e x j) = rw x (short (omega arith) (omega arith) (omega arith))

@@ -11,6 +11,7 @@ use Rattle.verdict.specs.declared.answers.CleanAnswer.{CleanAnswer}
 use Rattle.verdict.specs.declared.answers.SnapshotAnswer.{SnapshotAnswer}
 use Rattle.verdict.specs.declared.answers.WitnessAnswer.{WitnessAnswer}
 use Rattle.text.specs.declared.TextAnswer.{TextAnswer}
+use Rattle.live.specs.declared.LiveAnswer.{LiveAnswer}
 
 pub record Numbers : Type 0 where
   pub kind : ℕ
@@ -58,6 +59,10 @@ witness-numbers (WitnessAnswer.Judged (Answer.Unclean f)) = fault-numbers f
 unfoldable pub text-numbers : TextAnswer → Numbers
 text-numbers (TextAnswer.Refused number place) = 0 with number and place
 text-numbers (TextAnswer.Accepted n) = 10 with n and 0
+
+unfoldable pub live-numbers : LiveAnswer → Numbers
+live-numbers (LiveAnswer.Refused number) = 0 with number and 0
+live-numbers LiveAnswer.Accepted = 10 with 0 and 0
 
 unfoldable pub packed : Numbers → ℕ
 packed n = n .kind + 65536 * (n .first + 65536 * (n .second + 65536 * n .third))

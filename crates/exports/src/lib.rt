@@ -5,8 +5,10 @@ ghost use Rattle.verdict.specs.Call.{CleanCall, SnapshotCall, ConflictCall, Ver
 ghost use Rattle.text.specs.ReadCall.{ReadCall};
 ghost use Rattle.text.specs.ReportCall.{ReportCall};
 ghost use Rattle.text.specs.WriteCall.{WriteCall};
-ghost use Rattle.exports.specs.Packed.{clean-numbers, snapshot-numbers, witness-numbers, text-numbers, Packs};
+ghost use Rattle.live.specs.LiveCall.{buffers, LiveCall};
+ghost use Rattle.exports.specs.Packed.{clean-numbers, snapshot-numbers, witness-numbers, text-numbers, live-numbers, Packs};
 use crate::pack::pack_clean;
+use crate::pack::pack_live;
 use crate::pack::pack_snapshot;
 use crate::pack::pack_text;
 use crate::pack::pack_witness;
@@ -95,4 +97,22 @@ pub extern "C" fn krupovesh_report(text: &[u8], out: &mut [u8]) -> u64
 {
     let answer = text::report(text, out);
     pack_text(answer)
+}
+
+// The live judge. A part of a log is taken, and each of its steps gets an answer; the first five buffers hold the state.
+#[no_mangle]
+pub extern "C" fn krupovesh_live(
+    state: &mut [u16],
+    opened: &mut [u16],
+    rows: &mut [u16],
+    marks: &mut [u64],
+    edges: &mut [u64],
+    part: &[u16],
+    answers: &mut [u16],
+) -> u64
+    ensures { λ r. ⌜ Packs (λ a. LiveCall (buffers (now (state .entry)) (now (opened .entry)) (now (rows .entry)) (now (marks .entry)) (now (edges .entry))) (now (part .entry)) (now (answers .entry)) a
+        (buffers (now (state .exit)) (now (opened .exit)) (now (rows .exit)) (now (marks .exit)) (now (edges .exit))) (now (answers .exit))) live-numbers r ⌝ }
+{
+    let answer = live::live(state, opened, rows, marks, edges, part, answers);
+    pack_live(answer)
 }

@@ -1,7 +1,8 @@
 // The one number in which a C call answers.
 ghost use mathlib.Core.Path.{_≡_};
-ghost use Rattle.exports.specs.Packed.{_with_and_then_, fault-numbers, clean-numbers, read-numbers, snapshot-numbers, witness-numbers, text-numbers, packed};
+ghost use Rattle.exports.specs.Packed.{_with_and_then_, fault-numbers, clean-numbers, read-numbers, snapshot-numbers, witness-numbers, text-numbers, live-numbers, packed};
 ghost use Rattle.exports.specs.Inner.Small.{Small};
+use live::LiveAnswer;
 use text::TextAnswer;
 use verdict::answers::Answer;
 use verdict::answers::CleanAnswer;
@@ -120,5 +121,16 @@ pub(crate) fn pack_text(answer: TextAnswer) -> u64
     match answer {
         TextAnswer::Refused(number, place) => pack(REFUSED, number as u64, place as u64, 0),
         TextAnswer::Accepted(n) => pack(ACCEPTED, n as u64, 0, 0),
+    }
+}
+
+// The number of the live judge's answer to a call.
+pub(crate) fn pack_live(answer: LiveAnswer) -> u64
+    requires { ⌜ Small (packed (live-numbers answer)) ⌝ }
+    ensures { λ r. ⌜ r ≡ packed (live-numbers answer) ⌝ }
+{
+    match answer {
+        LiveAnswer::Refused(number) => pack(REFUSED, number as u64, 0, 0),
+        LiveAnswer::Accepted => pack(ACCEPTED, 0, 0, 0),
     }
 }

@@ -1,15 +1,21 @@
-// Orders and cycles of a graph on the vertices 1..128. A set of vertices is two numbers of 64 marks, and the edges of a graph are a row for each
+// Orders, cycles and ways of a graph on the vertices 1..128. A set of vertices is two numbers of 64 marks, and the edges of a graph are a row for each
 // vertex: the set of those from which an edge leads to it. An edge of a vertex to itself, or of one that takes no part, counts for nothing.
 mod cycle;
 mod left;
+mod lent;
 mod onward;
 mod order;
+mod reach;
 mod rows;
 mod sets;
 
+pub use lent::lent_join;
+pub use lent::lent_row;
 pub use order::keeps;
+pub use reach::reaches;
 pub use rows::join;
 pub use rows::row;
+pub use sets::any;
 pub use sets::takes_part;
 pub use sets::union;
 pub use sets::with_vertex;

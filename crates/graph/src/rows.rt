@@ -5,36 +5,22 @@ ghost use lib.ListN.{length};
 ghost use Rattle.graph.specs.Matrix.{vertices, takes-part, in-row, Joins};
 ghost use Rattle.graph.specs.Inner.Rows.{PutRow};
 use super::ROWS;
-use super::VERTICES;
 use super::WORDS;
+use super::lent::lent_join;
+use super::lent::lent_row;
 
 // The row of b; it has no vertex where b is none.
 pub fn row(m: &[u64; ROWS], b: usize) -> [u64; WORDS]
     ensures { λ r. ⌜ ((a : ℕ) → takes-part vertices r a ≡ in-row (now (m .entry)) b a) ⌝ }
 {
-    if b == 0 {
-        return [0u64; WORDS];
-    }
-    if VERTICES < b {
-        return [0u64; WORDS];
-    }
-    let i = (b - 1) * WORDS;
-    [m[i], m[i + 1]]
+    lent_row(m, b)
 }
 
 // An edge to b, where b is a vertex, from each vertex of the set.
 pub fn join(m: &mut [u64; ROWS], those: [u64; WORDS], b: usize)
     ensures { λ _. ⌜ Joins (now (m .entry)) those b (now (m .exit)) ⌝ }
 {
-    if b == 0 {
-        return;
-    }
-    if VERTICES < b {
-        return;
-    }
-    let i = (b - 1) * WORDS;
-    m[i] = bits::union(m[i], those[0]);
-    m[i + 1] = bits::union(m[i + 1], those[1]);
+    lent_join(m, those, b);
 }
 
 // The set becomes the row of b.

@@ -50,7 +50,7 @@ pub(crate) fn dropped(those: [u64; WORDS], v: usize) -> [u64; WORDS]
 }
 
 // Whether the set has any vertex.
-pub(crate) fn any(those: [u64; WORDS]) -> bool
+pub fn any(those: [u64; WORDS]) -> bool
     ensures { λ r. ⌜ r ≡ some (suc vertices) (takes-part vertices those) ⌝ }
 {
     if bits::any_mark(those[0]) {

@@ -87,6 +87,14 @@ pub fn print_refused(number: u16, place: usize) {
     print_line(&mut line, d);
 }
 
+// Prints the line of a refusal that has no place.
+pub fn print_refused_step(number: u16) {
+    let mut line = [0u8; ROOM];
+    let a = add(&mut line, 0, b"refused=");
+    let b = add_number(&mut line, a, number as u64);
+    print_line(&mut line, b);
+}
+
 // Prints the line `file=NAME`.
 pub fn print_file(name: &[u8]) {
     let mut line = [0u8; ROOM];

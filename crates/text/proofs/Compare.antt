@@ -17,7 +17,7 @@ unfolding header
 header-free = item-free (bytes "steps=") line-end line-end-apart
 
 -- the parts of a step that a line can say
-step→ : (k t x s : ℕ) → sayable-step k t x s ≡ true → (has-word k ≡ true) × (sayable t ≡ true) × (sayable x ≡ true) × (sayable s ≡ true)
+pub step→ : (k t x s : ℕ) → sayable-step k t x s ≡ true → (has-word k ≡ true) × (sayable t ≡ true) × (sayable x ≡ true) × (sayable s ≡ true)
 unfolding sayable-step
 step→ k t x s h =
     let q = and→ h in

@@ -31,6 +31,9 @@ three-digits = more-digits 100 2 (omega arith) two-digits
 pub four-digits : (n : ℕ) → n < 10000 → length (decimal n) ≤ 4
 four-digits = more-digits 1000 3 (omega arith) three-digits
 
+pub five-digits : (n : ℕ) → n < 100000 → length (decimal n) ≤ 5
+five-digits = more-digits 10000 4 (omega arith) four-digits
+
 pub item-length : (key v : List ℕ) (behind : ℕ) → length (item key v behind) ≡ length key + length v + 1
 unfolding item
 item-length key v behind = length-append (key ++ v) (behind ∷ []) ∙ ap (λ (m : ℕ). m + 1) (length-append key v)

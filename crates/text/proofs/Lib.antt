@@ -14,6 +14,7 @@ pub mod Only
 pub mod Calls
 pub mod WasRead
 pub mod Saying
+pub mod OneLines
 pub mod WriteCalls
 pub mod RoundTrip
 pub mod Tells

@@ -70,7 +70,7 @@ well-said log well = each-said (steps log) log (whole-steps log well) (step-said
 abbrev most-line : ℕ
 most-line = 31
 
-line-length : (k t x s : ℕ) → length (line k t x s) ≡ length (op k) + (length (decimal t) + length (decimal x) + length (decimal s) + 15)
+pub line-length : (k t x s : ℕ) → length (line k t x s) ≡ length (op k) + (length (decimal t) + length (decimal x) + length (decimal s) + 15)
 unfolding line bytes
 line-length k t x s =
     let a = item (bytes "tx=") (decimal t) blank in
@@ -87,7 +87,7 @@ line-length k t x s =
     )
 
 -- the front of a line
-front-length : {k : ℕ} → Kind k → length (op k) ≤ 10
+pub front-length : {k : ℕ} → Kind k → length (op k) ≤ 10
 unfolding op item word bytes _is_ if_then_else_
 front-length begin = omega arith
 front-length read = omega arith

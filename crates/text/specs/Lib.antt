@@ -5,6 +5,7 @@ pub mod Line
 pub mod Text
 pub mod Reading
 pub mod ReadCall
+pub mod OneLine
 pub mod ReportLine
 pub mod Report
 pub mod ReportCall

@@ -3,11 +3,13 @@ mod clear;
 mod decimal;
 mod line;
 mod number;
+mod one_line;
 mod put;
 mod report_line;
 mod reports;
 mod writer;
 
+pub use one_line::read_line;
 pub use reports::report;
 pub use writer::write;
 ghost use mathlib.Core.Path.{_≡_};
@@ -33,6 +35,9 @@ pub struct Text {
 impl Text {
     pub const LIMIT: usize = 33803;
 
+    // How many bytes the longest line has.
+    pub const LINE: usize = 40;
+
     // How many bytes the buffer has into which a text is written.
     pub const WRITTEN: usize = 33803;
 
@@ -45,6 +50,13 @@ impl Text {
 pub enum TextAnswer {
     Refused(u16, usize),
     Accepted(usize),
+}
+
+// What a line by itself says: a step by its kind, transaction, object and source; how many steps follow; or nothing that is in form.
+pub enum OneLine {
+    Step(u16, u16, u16, u16),
+    Header,
+    Other,
 }
 
 // Reads the text's steps into the buffer. A refusal leaves the buffer as it was.

@@ -46,7 +46,7 @@ fn kind_at(text: &[u8], at: usize) -> Number
 }
 
 // The line at this place.
-fn line_at(text: &[u8], at: usize) -> Line
+pub(crate) fn line_at(text: &[u8], at: usize) -> Line
     requires { ⌜ at ≤ length (now text) ⌝ }
     ensures { λ r. ⌜ FindsLine (now (text .entry)) at r ⌝ }
 {

@@ -39,11 +39,11 @@ module _ (log : List ℕ) (x : ℕ) where
   unfolding last-committed last-commit highest
   last-none = if-false _ _ (→not-below (omega arith))
 
-  last-here : (b : ℕ) → commits-writer log x b ≡ true → last-committed log (suc b) x ≡ Committed (tx log b) b
+  pub last-here : (b : ℕ) → commits-writer log x b ≡ true → last-committed log (suc b) x ≡ Committed (tx log b) b
   unfolding last-committed last-commit
   last-here b h = rw (highest-yes b (commits-writer log x) h) (if-true _ _ (→below (omega arith)))
 
-  last-before : (b : ℕ) → commits-writer log x b ≡ false → last-committed log (suc b) x ≡ last-committed log b x
+  pub last-before : (b : ℕ) → commits-writer log x b ≡ false → last-committed log (suc b) x ≡ last-committed log b x
   unfolding last-committed last-commit
   last-before b h = go (decide (some b (commits-writer log x)))
     where

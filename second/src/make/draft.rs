@@ -56,6 +56,16 @@ impl Draft {
             .unwrap_or(0)
     }
 
+    /// One that committed since step k wrote an object that this one wrote.
+    pub fn clashes(&self, tx: u16, k: usize) -> bool {
+        let mut commits = self.steps[k..].iter().filter(|s| s[0] == COMMIT);
+        commits.any(|commit| {
+            let writes = |s: &&Numbers| s[0] == WRITE && s[1] == commit[1];
+            let mut written = self.steps.iter().filter(writes);
+            written.any(|s| self.wrote(tx, s[2]))
+        })
+    }
+
     /// The text of the log: the header and a line for each step.
     pub fn text(&self) -> Vec<u8> {
         let mut text = format!("steps={}\n", self.steps.len());
@@ -67,7 +77,8 @@ impl Draft {
     }
 }
 
-fn line(step: &Numbers) -> String {
+/// The line of a step with a kind 1..5, without its LF.
+pub fn line(step: &Numbers) -> String {
     let word = WORDS[step[0] as usize - 1];
     format!("op={word} tx={} obj={} from={}", step[1], step[2], step[3])
 }

@@ -1,7 +1,7 @@
 //! Plays transactions against one another and writes down a log that passes
 //! the check.
 
-use super::draft::{Draft, COMMIT};
+use super::draft::Draft;
 use crate::rng::Rng;
 
 /// Which version a read takes.
@@ -106,25 +106,12 @@ impl Stage<'_> {
     }
 
     fn end(&mut self, tx: u16, begin: usize) {
-        let loses = self.manner.first_committer_wins && self.clashes(tx, begin);
+        let loses = self.manner.first_committer_wins && self.draft.clashes(tx, begin);
         if loses || self.rng.chance(self.manner.aborts, 12) {
             self.draft.abort(tx);
         } else {
             self.draft.commit(tx);
         }
-    }
-
-    /// A transaction that committed since the begin wrote one of the objects.
-    fn clashes(&self, tx: u16, begin: usize) -> bool {
-        let draft = &self.draft;
-        let since = draft.steps[begin..].iter().filter(|s| s[0] == COMMIT);
-        let mut winners = since.map(|s| s[1]);
-        winners.any(|w| {
-            self.cast
-                .objects
-                .iter()
-                .any(|&x| draft.wrote(w, x) && draft.wrote(tx, x))
-        })
     }
 
     fn source(&mut self, tx: u16, begin: usize, obj: u16) -> u16 {

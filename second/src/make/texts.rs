@@ -5,7 +5,7 @@ use super::{damaged, small};
 use crate::rng::Rng;
 use crate::text::{BYTES, WORDS};
 
-type Line = Vec<u8>;
+pub type Line = Vec<u8>;
 
 /// Each index aims at one way to depart from the form.
 pub fn text(rng: &mut Rng, index: usize) -> Vec<u8> {
@@ -53,7 +53,7 @@ fn split(text: &[u8]) -> Vec<Line> {
 }
 
 /// LF after every line.
-fn join(lines: &[Line]) -> Vec<u8> {
+pub fn join(lines: &[Line]) -> Vec<u8> {
     lines
         .iter()
         .flat_map(|line| [line.as_slice(), b"\n"].concat())
@@ -85,7 +85,7 @@ fn spoil_damaged(rng: &mut Rng, lines: &mut Vec<Line>, index: usize) {
 }
 
 /// One line departs from the form, nearly always.
-fn spoil(rng: &mut Rng, line: &mut Line) {
+pub fn spoil(rng: &mut Rng, line: &mut Line) {
     if !line.contains(&b'=') {
         return line.push(rng.below(256) as u8);
     }

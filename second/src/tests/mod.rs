@@ -1,10 +1,11 @@
 //! Tests: the paper's samples, the settled points, brute force against the
-//! plain algorithms, and what the made texts reach.
+//! plain algorithms, the live judge, and what the made texts reach.
 
 mod agreement;
 mod damage;
 mod every;
 mod graphs;
+mod live;
 mod made;
 mod points;
 mod reasons;

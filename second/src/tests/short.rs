@@ -1,5 +1,5 @@
 //! The short form of logs: b1 begin, w1x, r2x1 (2 reads x from 1), c1, a1;
-//! x, y, z are objects 0, 1, 2, and {32} is object 32.
+//! x, y, z are objects 0, 1, 2, {32} is object 32, and b2:1 has source 1.
 
 use crate::log::{check, Log, Refusal};
 use crate::permutations;
@@ -33,6 +33,9 @@ fn object_and_source(rest: &str) -> (u16, u16) {
     };
     if rest.is_empty() {
         return (0, 0);
+    }
+    if let Some(from) = rest.strip_prefix(':') {
+        return (0, source(from));
     }
     if let Some(braced) = rest.strip_prefix('{') {
         let (obj, from) = braced.split_once('}').expect("a closing brace");

@@ -32,7 +32,7 @@ fn made_texts() {
             let accepted = texts.filter(|text| comes_back(text)).count();
             match sort {
                 Sort::Small => assert_eq!(accepted, COUNT),
-                Sort::Damaged => assert!(accepted < COUNT / 4),
+                Sort::Damaged | Sort::Live => assert!(accepted < COUNT / 4),
                 Sort::Texts => assert!((COUNT / 20..COUNT / 2).contains(&accepted)),
                 Sort::Limits => assert!((COUNT / 2..COUNT).contains(&accepted)),
             }

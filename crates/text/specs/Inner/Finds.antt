@@ -9,6 +9,7 @@ use Rattle.words.specs.Tests.{_is_, _upto_, _and_}
 use Rattle.text.specs.Line.{line, sayable-step}
 use Rattle.text.specs.Text.{lines, Steps}
 use Rattle.text.specs.Reading.{NoLine}
+use Rattle.text.specs.OneLine.{IsHeader}
 use Rattle.text.specs.declared.number.Number.{Number}
 use Rattle.text.specs.declared.number.Number.the-variants as number
 use Rattle.text.specs.declared.line.Line.{Line}
@@ -35,6 +36,11 @@ Finds form passes bytes at number.Bad = (n : ℕ) (rest : List ℕ) → passes n
 abbrev pub FindsLine : (bytes : List ℕ) (at : ℕ) → Line → Type 0
 FindsLine bytes at (a-line.At k t x s next) = (sayable-step k t x s ≡ true) × (next ≤ length bytes) × (drop at bytes ≡ line k t x s ++ drop next bytes)
 FindsLine bytes at a-line.Bad = NoLine (drop at bytes)
+
+-- the bytes are a header and no more; or not
+abbrev pub FindsHeader : (bytes : List ℕ) → Bool → Type 0
+FindsHeader bytes true = IsHeader bytes
+FindsHeader bytes false = IsHeader bytes → ⊥
 
 -- a buffer after a pass over the lines of this log: its steps stand first
 unfoldable pub kept : List ℕ → List ℕ → List ℕ

@@ -1,0 +1,2 @@
+-- Laws of the line that has begun.
+pub mod Coming
