@@ -1,5 +1,5 @@
--- Edges by when transactions began and committed. The live judge keeps these: each version edge is one of them, and each of them a chain of version
--- edges makes good for, so that they close the same cycles.
+-- Edges by when transactions began and committed. The live judge keeps these. Each version edge is one of them, and, while no breach came,
+-- each of them is a way along version edges: so they close the same cycles.
 use mathlib.Core.Bool.{Bool}
 use mathlib.Core.List.{List}
 use Prim.Native.Nat.{ℕ}
