@@ -4,7 +4,7 @@
 #include <string.h>
 
 enum { BEGIN = 1, READ, WRITE, COMMIT };
-enum { TRANSACTIONS = 128, OBJECTS = 64, FEW = 4 };
+enum { PLACES = 128, OBJECTS = 64, FEW = 4 };
 
 static void add(struct stream *s, unsigned kind, unsigned tx, unsigned object, unsigned source)
 {
@@ -86,22 +86,23 @@ static void touch_one(struct stream *s, struct open *open, unsigned count, struc
     touch(s, o, next_of(&t->object, OBJECTS - 1), o->writes && next_of(&t->kind, 2) == 0);
 }
 
-/* Four open at once, of which one writes and the others see what was there when they began. As one commits, the next one begins. */
-static void few_open(struct stream *s, size_t steps, uint64_t seed)
+/* Four open at once, of which one writes and the others see what was there when they began. As one commits, the next one begins, until so
+ * many have begun. */
+static void few_open(struct stream *s, size_t steps, unsigned transactions, uint64_t seed)
 {
     struct open open[FEW];
     struct turns t = start(seed);
     unsigned now[OBJECTS] = {0}, begun = 0;
-    size_t touches = steps - 2 * TRANSACTIONS, done = 0;
+    size_t touches = steps - 2 * (size_t)transactions, done = 0;
 
     for (; begun < FEW; begun++)
         begin(s, &open[begun], begun + 1, now, begun == 0);
-    for (unsigned ended = 0; ended < TRANSACTIONS; ended++) {
+    for (unsigned ended = 0; ended < transactions; ended++) {
         struct open *o = &open[ended % FEW];
-        for (; done < touches * (ended + 1) / TRANSACTIONS; done++)
+        for (; done < touches * (ended + 1) / transactions; done++)
             touch_one(s, open, FEW, &t);
         commit(s, o, now);
-        if (begun < TRANSACTIONS)
+        if (begun < transactions)
             begin(s, o, ++begun, now, o->writes);
         else
             o->tx = 0;
@@ -109,39 +110,46 @@ static void few_open(struct stream *s, size_t steps, uint64_t seed)
 }
 
 /* All open at once: half of them write and read an object each, and the others read all objects; then all commit. */
-static void all_open(struct stream *s, size_t steps, uint64_t seed)
+static void all_open(struct stream *s, size_t steps, unsigned transactions, uint64_t seed)
 {
-    struct open open[TRANSACTIONS];
+    struct open open[PLACES];
     struct turns t = start(seed);
     unsigned now[OBJECTS] = {0};
 
-    for (unsigned i = 0; i < TRANSACTIONS; i++)
+    for (unsigned i = 0; i < transactions; i++)
         begin(s, &open[i], i + 1, now, i % 2 == 1);
-    for (size_t done = 2 * TRANSACTIONS; done < steps; done++) {
-        unsigned i = next_of(&t.who, TRANSACTIONS);
+    for (size_t done = 2 * transactions; done < steps; done++) {
+        unsigned i = next_of(&t.who, transactions);
         if (open[i].writes)
             touch(s, &open[i], i / 2, open[i].wrote == 0 || next_of(&t.kind, 2) == 0);
         else
             touch(s, &open[i], next_of(&t.object, OBJECTS - 1), 0);
     }
-    for (unsigned i = 0; i < TRANSACTIONS; i++)
+    for (unsigned i = 0; i < transactions; i++)
         commit(s, &open[i], now);
 }
+
+#define DRAWN UINT64_C(0x9e3779b97f4a7c15)
 
 static const struct {
     const char *name;
     size_t steps;
-    void (*make)(struct stream *, size_t, uint64_t);
+    unsigned transactions;
+    void (*make)(struct stream *, size_t, unsigned, uint64_t);
     uint64_t seed;
 } streams[] = {
-    {"few open, in turn, 1,000 steps", 1000, few_open, 0},
-    {"few open, in turn, 10,000 steps", 10000, few_open, 0},
-    {"few open, in turn, 100,000 steps", 100000, few_open, 0},
-    {"few open, drawn, 100,000 steps", 100000, few_open, 0x9e3779b97f4a7c15},
-    {"128 open, in turn, 1,000 steps", 1000, all_open, 0},
-    {"128 open, in turn, 10,000 steps", 10000, all_open, 0},
-    {"128 open, in turn, 100,000 steps", 100000, all_open, 0},
-    {"128 open, drawn, 100,000 steps", 100000, all_open, 0x9e3779b97f4a7c15},
+    {"few open, in turn, 1,000 steps", 1000, PLACES, few_open, 0},
+    {"few open, in turn, 10,000 steps", 10000, PLACES, few_open, 0},
+    {"few open, in turn, 100,000 steps", 100000, PLACES, few_open, 0},
+    {"few open, drawn, 100,000 steps", 100000, PLACES, few_open, DRAWN},
+    {"few open, on and on, in turn, 10,000 steps", 10000, 10000 / 16, few_open, 0},
+    {"few open, on and on, in turn, 1,000,000 steps", 1000000, 1000000 / 16, few_open, 0},
+    {"few open, on and on, drawn, 10,000 steps", 10000, 10000 / 16, few_open, DRAWN},
+    {"few open, on and on, drawn, 1,000,000 steps", 1000000, 1000000 / 16, few_open, DRAWN},
+    {"128 open, in turn, 1,000 steps", 1000, PLACES, all_open, 0},
+    {"128 open, in turn, 10,000 steps", 10000, PLACES, all_open, 0},
+    {"128 open, in turn, 100,000 steps", 100000, PLACES, all_open, 0},
+    {"128 open, drawn, 100,000 steps", 100000, PLACES, all_open, DRAWN},
 };
 const unsigned stream_count = sizeof streams / sizeof *streams;
 
@@ -149,5 +157,5 @@ void make_stream(unsigned index, struct stream *s)
 {
     s->name = streams[index].name;
     s->steps = 0;
-    streams[index].make(s, streams[index].steps, streams[index].seed);
+    streams[index].make(s, streams[index].steps, streams[index].transactions, streams[index].seed);
 }

@@ -5,7 +5,7 @@
 #include <stddef.h>
 #include <stdint.h>
 
-enum { MOST_STEPS = 100000 };
+enum { MOST_STEPS = 1000000 };
 
 struct stream {
     const char *name;

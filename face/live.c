@@ -1,4 +1,5 @@
-/* Tests the live judge: streams cut in many ways, wrong lengths before, between and behind the parts, and states that no stream has reached. */
+/* Tests the live judge: streams cut in many ways, wrong lengths before, between and behind the parts, states that no stream has reached, and
+ * every transaction that can be. */
 #include "live.h"
 
 #include <stdlib.h>
@@ -61,7 +62,7 @@ static void try_part(size_t first, size_t count, const char *about)
 /* Number 1, whatever the other lengths are. */
 static void try_odd_parts(void)
 {
-    static const size_t odd[] = {1, 2, 3, 5, 1199};
+    static const size_t odd[] = {1, 2, 3, 5, 4 * MOST_STEPS - 1};
     for (unsigned i = 0; i < sizeof odd / sizeof *odd; i++) {
         for (size_t entries = odd[i] / 4; entries <= odd[i] / 4 + 1; entries++) {
             lend(PART, odd[i], NULL);
@@ -187,15 +188,24 @@ static void disturb(enum buffer b, unsigned times)
     }
 }
 
+/* Changes the saved state: two entries of each buffer, or many, or some buffers to all zeros and others to all ones. */
+static void make_strange(enum buffer b, unsigned how)
+{
+    if (how == 3 && below(4) != 0)
+        memset(saved[b - STATE], below(2) == 0 ? 0 : 0xff, state_bytes(b));
+    else if (how != 3)
+        disturb(b, how == 1 ? 2 : 1000);
+}
+
 /* The state at hand with some of it changed, or dirt; then the stream goes on, and steps that are anything. */
-static void try_strange_state(unsigned which)
+static void try_strange_state(unsigned how)
 {
     uint16_t any[4 * 40];
     for (unsigned i = 0; i < 4 * 40; i++)
         any[i] = (uint16_t)(i % 4 == 0 ? below(7) : below(6) == 0 ? below(65536) : below(64));
     for (enum buffer b = STATE; b <= EDGES; b++) {
-        disturb(b, which % 4 == 0 ? 0 : which % 4 == 1 ? 2 : 1000);
-        lend(b, right_length(b), which % 4 == 0 ? NULL : saved[b - STATE]);
+        make_strange(b, how);
+        lend(b, right_length(b), how == 0 ? NULL : saved[b - STATE]);
         let_change(b);
     }
     try_anything(s.numbers, s.steps);
@@ -210,30 +220,109 @@ static void try_strange_states(void)
         lend_fresh();
         try_part(0, half, "half a stream");
         save_state();
-        try_strange_state(which);
+        try_strange_state(which % 4);
     }
 }
 
-enum { MANY = 70000 };
+/* Steps with the answer that 02 says is due to each, tried in parts of many steps. */
+enum { MANY = 70000, BEGIN = 1, READ_ONE, WRITE_ONE, COMMIT, ABORT };
+enum { LAST_NUMBER = 65535, PLACES = 128, GOOD = KRUPOVESH_LIVE_TAKEN };
 static uint16_t many_numbers[4 * MANY], many_answers[MANY];
+static size_t many;
+
+static void try_many(const char *about)
+{
+    lend(PART, 4 * many, many_numbers);
+    lend(ANSWERS, many, NULL);
+    make_due(ANSWERS, many_answers, many);
+    try_call(LIVE, answer(KRUPOVESH_ACCEPTED, 0, 0), about);
+    many = 0;
+}
+
+static void add(unsigned kind, unsigned tx, unsigned object, unsigned source, unsigned due)
+{
+    const uint16_t step[4] = {(uint16_t)kind, (uint16_t)tx, (uint16_t)object, (uint16_t)source};
+    if (many == MANY)
+        try_many("many steps");
+    memcpy(many_numbers + 4 * many, step, sizeof step);
+    many_answers[many++] = (uint16_t)due;
+}
 
 /* More steps than a 16-bit number counts, in one part: two that write and read on, of which the second also reads the store's version at
- * last. Each gets what 02 says to a good step, and the commit of the second is a breach. */
+ * last: its commit is a breach. */
 static void try_many_steps(void)
 {
-    for (size_t k = 0; k < MANY; k++) {
-        uint16_t half = k < MANY / 2 ? 1 : 2, *n = many_numbers + 4 * k;
-        size_t place = k % (MANY / 2), last = MANY / 2 - 1;
-        n[0] = place == 0 ? 1 : place == last ? 4 : place % 2 == 1 ? 3 : 2;
-        n[1] = half;
-        n[3] = n[0] != 2 || k == MANY - 2 ? 0 : half;
-        many_answers[k] = place != last ? KRUPOVESH_LIVE_TAKEN : half == 1 ? KRUPOVESH_LIVE_YES : KRUPOVESH_LIVE_BREACH;
-    }
     lend_fresh();
-    lend(PART, 4 * MANY, many_numbers);
-    lend(ANSWERS, MANY, NULL);
-    make_due(ANSWERS, many_answers, MANY);
-    try_call(LIVE, answer(KRUPOVESH_ACCEPTED, 0, 0), "many steps in one part");
+    for (unsigned tx = 1; tx <= 2; tx++) {
+        add(BEGIN, tx, 0, 0, GOOD);
+        for (unsigned k = 0; k < MANY / 4 - 1; k++) {
+            add(WRITE_ONE, tx, 0, 0, GOOD);
+            add(READ_ONE, tx, 0, tx == 2 && k == MANY / 4 - 2 ? 0 : tx, GOOD);
+        }
+        add(COMMIT, tx, 0, 0, tx == 1 ? KRUPOVESH_LIVE_YES : KRUPOVESH_LIVE_BREACH);
+    }
+    try_many("many steps in one part");
+}
+
+/* One that reads what the one before it wrote, writes the same object, and commits. */
+static void add_link(unsigned tx, unsigned before)
+{
+    add(BEGIN, tx, 0, 0, GOOD);
+    add(READ_ONE, tx, 0, before, GOOD);
+    add(WRITE_ONE, tx, 0, 0, GOOD);
+    add(COMMIT, tx, 0, 0, KRUPOVESH_LIVE_YES);
+}
+
+/* Every number begins, one after another; the last two are open at once, and each reads what the other writes. */
+static void try_every_number(void)
+{
+    const unsigned one = LAST_NUMBER - 1, other = LAST_NUMBER;
+    lend_fresh();
+    for (unsigned tx = 1; tx < one; tx++)
+        add_link(tx, tx - 1);
+    add(BEGIN, one, 0, 0, GOOD);
+    add(BEGIN, other, 0, 0, GOOD);
+    add(BEGIN, other, 0, 0, 7);
+    add(BEGIN, 1, 0, 0, 7);
+    add(COMMIT, 1, 0, 0, 8);
+    add(READ_ONE, one, 1, 0, GOOD);
+    add(READ_ONE, other, 2, 0, GOOD);
+    add(WRITE_ONE, one, 2, 0, GOOD);
+    add(WRITE_ONE, other, 1, 0, GOOD);
+    add(COMMIT, one, 0, 0, KRUPOVESH_LIVE_YES);
+    add(COMMIT, other, 0, 0, KRUPOVESH_LIVE_CLOSED);
+    add(BEGIN, 0, 0, 0, KRUPOVESH_LIVE_CLOSED);
+    try_many("every number");
+}
+
+/* All places are in use by those that are open: the next begins when the first of them has aborted. */
+static void try_open_places(void)
+{
+    lend_fresh();
+    for (unsigned tx = 1; tx <= LAST_NUMBER; tx++) {
+        if (tx > PLACES) {
+            add(BEGIN, tx, 0, 0, 18);
+            add(WRITE_ONE, tx, 0, 0, 8);
+            add(ABORT, tx - PLACES, 0, 0, GOOD);
+        }
+        add(BEGIN, tx, 0, 0, GOOD);
+    }
+    try_many("all places open");
+}
+
+/* One that is open holds the places of all others, which have committed, until it ends. */
+static void try_held_places(void)
+{
+    unsigned last = 0;
+    lend_fresh();
+    for (unsigned first = 1; first + PLACES <= LAST_NUMBER; first += PLACES) {
+        add(BEGIN, first, 0, 0, GOOD);
+        for (unsigned tx = first + 1; tx < first + PLACES; last = tx++)
+            add_link(tx, last);
+        add(BEGIN, first + PLACES, 0, 0, 18);
+        add(COMMIT, first, 0, 0, KRUPOVESH_LIVE_YES);
+    }
+    try_many("all places held");
 }
 
 /* Whether each answer was due to some step; what was not is said. */
@@ -266,5 +355,8 @@ unsigned long try_live(const char *path)
     }
     fclose(file);
     try_many_steps();
+    try_every_number();
+    try_open_places();
+    try_held_places();
     return is_whole(met) ? streams : 0;
 }

@@ -6,7 +6,7 @@
 #include <stdint.h>
 #include <stdio.h>
 
-enum { MOST_STEPS = 300 };
+enum { MOST_STEPS = 600 };
 
 struct stream {
     size_t steps;

@@ -126,14 +126,15 @@ uint64_t krupovesh_report(const uint8_t *text, size_t text_length, uint8_t *out,
  * lent to every call, and carry it from part to part; all of them zero is the fresh state, in which nothing has begun. How the log
  * is cut into parts makes no difference.
  *
- * Transactions are 1..65535 and begin in rising order. Each one that begins is kept, and there is room for 128. Sources may be any
- * number on a read. There is no limit on steps.
+ * Transactions are 1..65535 and begin in rising order. 128 places may be in use at a time: by the open transactions, and by the
+ * committed ones that are kept. An aborted one gives its place back at once; a committed one does when all that overlapped it have
+ * ended and no kept committed one has a version edge to it. Sources may be any number on a read. There is no limit on steps.
  *
  * Each step gets one entry of the answers, which are as many as the steps of the part:
  *
  *     3, 4, 5, 6, 8             as for a log, with 4 for transaction 0 alone: the step was refused, and is as if it had not come
  *     7                         refused: a begin that is not above every one before it
- *     18                        refused: a begin, and 128 are kept already
+ *     18                        refused: a begin, and all 128 places are in use; later it may be taken
  *     KRUPOVESH_LIVE_TAKEN      a good step that is no commit
  *     KRUPOVESH_LIVE_YES        a good commit
  *     KRUPOVESH_LIVE_BREACH     with this commit the log so far is no snapshot any more

@@ -44,6 +44,21 @@ impl Graph {
         self.edges[from][to]
     }
 
+    pub fn has_cycle(&self) -> bool {
+        self.has_cycle_among(&self.members)
+    }
+
+    /// Taking out again and again a vertex that none of the others leads to
+    /// leaves some of these.
+    pub fn has_cycle_among(&self, vertices: &[usize]) -> bool {
+        let mut left = vertices.to_vec();
+        let is_first = |left: &[usize], v: usize| !left.iter().any(|&p| self.leads(p, v));
+        while let Some(place) = left.iter().position(|&v| is_first(&left, v)) {
+            left.remove(place);
+        }
+        !left.is_empty()
+    }
+
     /// No later entry leads to an earlier one.
     pub fn keeps_every_edge(&self, order: &[usize]) -> bool {
         (0..order.len()).all(|late| (0..late).all(|early| !self.leads(order[late], order[early])))

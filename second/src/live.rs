@@ -1,13 +1,16 @@
 //! The live judge: answers a stream step by step. It keeps the steps that it
-//! took, and at every commit judges the whole log so far.
+//! took, and at every commit judges the whole log so far. Who is forgotten only
+//! counts where a begin asks for room.
 
-use crate::log::{begins, check_numbers, is_ended, wrote, Kind, Log, Step};
-use crate::verdicts::{snapshot, version, Answer, Snapshot};
+use crate::log::{begins, check_numbers, is_ended, wrote, Kind, Step};
+use crate::room::Room;
+use crate::so_far::{begun, SoFar};
+use crate::verdicts::{snapshot, version_edges, Snapshot};
 
-/// So many transactions are kept, each one begun.
+/// So many places there are: one for each that is open or kept.
 pub const ROOM: usize = 128;
 /// Transactions are 1 to this number, and sources 0 to it.
-const HIGHEST: usize = 65_535;
+pub const HIGHEST: usize = 65_535;
 
 /// The answer to one step.
 #[derive(Clone, Copy, Debug, PartialEq, Eq)]
@@ -31,6 +34,10 @@ impl Said {
         }
     }
 
+    pub fn refuses(self) -> bool {
+        matches!(self, Said::Refused(_))
+    }
+
     /// Once said it is the answer to every later step.
     pub fn stands(self) -> bool {
         matches!(self, Said::Breach | Said::CycleClosed)
@@ -45,7 +52,7 @@ pub struct Live {
 }
 
 impl Live {
-    /// A fresh judge with room for so many transactions.
+    /// A fresh judge with so many places.
     pub fn new(room: usize) -> Live {
         Live {
             room,
@@ -83,10 +90,17 @@ impl Live {
         if begun.iter().any(|&earlier| step.tx <= earlier) {
             return Err(7);
         }
-        if begun.len() >= self.room {
+        // fewer than the places have begun: nobody need be forgotten
+        if begun.len() >= self.room && self.in_use() >= self.room {
             return Err(18);
         }
         Ok(step)
+    }
+
+    /// The places that remain in use when nothing more can be forgotten.
+    fn in_use(&self) -> usize {
+        let so_far = SoFar::new(&self.steps);
+        so_far.open.len() + Room::new(&so_far).kept().len()
     }
 }
 
@@ -95,13 +109,14 @@ fn judge(steps: &[Step]) -> Said {
     if has_wrong_source(steps) {
         return Said::Breach;
     }
-    let log = log_so_far(steps);
+    let log = SoFar::new(steps).log;
     if snapshot(&log) != Snapshot::Yes {
         return Said::Breach;
     }
-    match version(&log) {
-        Answer::Cycle(_) => Said::CycleClosed,
-        _ => Said::Yes,
+    if version_edges(&log).has_cycle() {
+        Said::CycleClosed
+    } else {
+        Said::Yes
     }
 }
 
@@ -112,39 +127,11 @@ fn has_wrong_source(steps: &[Step]) -> bool {
         let (read, earlier) = (&steps[k], &steps[..k]);
         let gets_9 = read.from != 0 && !wrote(earlier, read.from, read.obj);
         let gets_10 = read.from != read.tx && wrote(earlier, read.tx, read.obj);
-        is_committed(steps, read.tx) && (gets_9 || gets_10)
+        (gets_9 || gets_10) && is_committed(steps, read.tx)
     })
 }
 
 fn is_committed(steps: &[Step], tx: usize) -> bool {
     let mut commits = steps.iter().filter(|s| s.kind == Kind::Commit);
     commits.any(|s| s.tx == tx)
-}
-
-/// The transactions in the order of their begins, which rise.
-fn begun(steps: &[Step]) -> Vec<usize> {
-    let begins = steps.iter().filter(|s| s.kind == Kind::Begin);
-    begins.map(|s| s.tx).collect()
-}
-
-/// The log with open transactions as aborted. It numbers transactions by their
-/// begins, from 1 on, which keeps their order. A source that never began is in
-/// no judged read, where it would be a wrong one, and becomes 0.
-fn log_so_far(steps: &[Step]) -> Log {
-    let all = begun(steps);
-    let place = |tx: usize| all.iter().position(|&one| one == tx).map_or(0, |i| i + 1);
-    let open = all.iter().filter(|&&tx| !is_ended(steps, tx));
-    let aborts = open.map(|&tx| Step {
-        kind: Kind::Abort,
-        tx,
-        obj: 0,
-        from: 0,
-    });
-    let whole = steps.iter().copied().chain(aborts);
-    let numbered = whole.map(|step| Step {
-        tx: place(step.tx),
-        from: place(step.from),
-        ..step
-    });
-    Log::new(numbered.collect())
 }

@@ -41,7 +41,7 @@ impl Kind {
         }
     }
 
-    fn ends(self) -> bool {
+    pub fn ends(self) -> bool {
         matches!(self, Kind::Commit | Kind::Abort)
     }
 }
@@ -159,6 +159,7 @@ pub struct Log {
     begin: Vec<Option<usize>>,
     commit: Vec<Option<usize>>,
     writes: Vec<[bool; OBJECTS]>,
+    committed_writers: Vec<Vec<usize>>,
 }
 
 impl Log {
@@ -175,7 +176,17 @@ impl Log {
                 Kind::Read | Kind::Abort => {}
             }
         }
+        let commits = steps.iter().filter(|step| step.kind == Kind::Commit);
+        let by_commit: Vec<usize> = commits.map(|step| step.tx).collect();
+        let writers = |obj: usize| {
+            by_commit
+                .iter()
+                .copied()
+                .filter(|&tx| writes[tx][obj])
+                .collect()
+        };
         Log {
+            committed_writers: (0..OBJECTS).map(writers).collect(),
             steps,
             begin,
             commit,
@@ -219,11 +230,8 @@ impl Log {
     }
 
     /// The committed writers of an object in commit order.
-    pub fn committed_writers(&self, obj: usize) -> Vec<usize> {
-        let mut writers = self.committed();
-        writers.retain(|&tx| self.writes(tx, obj));
-        writers.sort_by_key(|&tx| self.commit_of(tx));
-        writers
+    pub fn committed_writers(&self, obj: usize) -> &[usize] {
+        &self.committed_writers[obj]
     }
 
     /// The reads of committed transactions, own reads too, with their steps.

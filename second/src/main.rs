@@ -2,6 +2,7 @@
 //! streams, histogram.
 
 mod every;
+mod forgetful;
 mod graph;
 mod graphs;
 mod histogram;
@@ -13,6 +14,8 @@ mod reasons;
 mod replay;
 mod report;
 mod rng;
+mod room;
+mod so_far;
 mod streams;
 #[cfg(test)]
 mod tests;

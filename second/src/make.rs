@@ -8,6 +8,7 @@ mod limits;
 mod lines;
 mod manner;
 mod play;
+mod scene;
 mod small;
 mod stream;
 mod texts;

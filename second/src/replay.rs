@@ -33,7 +33,9 @@ impl Replay {
             clean: clean(log).is_none(),
             committed: log.committed(),
             doings,
-            writers: (0..OBJECTS).map(|obj| log.committed_writers(obj)).collect(),
+            writers: (0..OBJECTS)
+                .map(|obj| log.committed_writers(obj).to_vec())
+                .collect(),
         }
     }
 

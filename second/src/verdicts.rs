@@ -99,9 +99,9 @@ pub fn snapshot(log: &Log) -> Snapshot {
 /// The last transaction to commit, before this step, among the committed
 /// writers of the object, and where it committed.
 fn last_committed(log: &Log, before: usize, obj: usize) -> LastCommitted {
-    let writers = log.committed_writers(obj).into_iter();
+    let writers = log.committed_writers(obj).iter();
     writers
-        .map(|writer| (writer, log.commit_of(writer)))
+        .map(|&writer| (writer, log.commit_of(writer)))
         .filter(|&(_, commit)| commit < before)
         .max_by_key(|&(_, commit)| commit)
 }

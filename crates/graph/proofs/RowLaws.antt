@@ -1,5 +1,5 @@
 -- Rows of sets: a row that is read, one that is put among the others, and one that takes more vertices in.
-use mathlib.Core.Path.{_≡_, refl, sym, ap, _∙_}
+use mathlib.Core.Path.{_≡_, refl, sym, ap, subst, _∙_}
 use mathlib.Core.Bool.{Bool, true, false}
 use mathlib.Core.Logic.{_⊎_, inl, inr}
 use mathlib.Core.List.{List, [], _∷_}
@@ -7,13 +7,13 @@ use Prim.Native.Nat.{ℕ, suc, _+_, _-_, _*_, _/_, _%_, _^_, _≤_, _<_}
 use native.Mathlib.Omega.{arith}
 use lib.ListN.{length, getD, set, length-set, replicate}
 use lib.Seq.{getD-set-same, getD-set-other, ext-getD}
-use Rattle.words.specs.Tests.{_is_, _upto_, _and_, _or_, if_then_else_}
-use Rattle.words.proofs.Truth.{decide, not-both, to-false, and→, →and, and-true, and-no-left, or-no, is→, →is, isnt→, upto→, →upto, if-true, if-false}
-use Rattle.bits.specs.Word.{marked}
-use Rattle.bits.specs.Run.{bit}
+use Rattle.words.specs.Tests.{_is_, _upto_, _and_, _or_, fails, if_then_else_}
+use Rattle.words.proofs.Truth.{decide, not-both, to-false, same-test, and→, →and, and-true, and-no-left, or-no, is→, →is, isnt→, upto→, →upto, if-true, if-false}
+use Rattle.bits.specs.Word.{marked, less}
+use Rattle.bits.specs.Run.{bit, without-bit}
 use Rattle.bits.proofs.Marks.{same-marks}
-use Rattle.bits.proofs.Runs.{bit-at, no-bit}
-use Rattle.graph.specs.Matrix.{takes-part, in-row, Joins}
+use Rattle.bits.proofs.Runs.{bit-at, bit-less, no-bit}
+use Rattle.graph.specs.Matrix.{takes-part, in-row, Joins, Drops}
 use Rattle.graph.specs.Inner.Rows.{PutRow}
 use Rattle.graph.proofs.TwoWords.{no-vertex, by-bit, word-by-word, two-words}
 
@@ -117,6 +117,39 @@ none-joined m s b n =
       size = refl;
       each = λ _ c a. sym (or-no (in-row m c a) (and-no-left _ (to-false _ (λ h. let r = and→ h in n (upto→ (and→ (r .0) .1)) (upto→ (r .1))))));
     }
+
+-- ONE VERTEX OF A ROW, by its word
+module _ (m : List ℕ) (size : length m ≡ 256) (b a : ℕ) (p : 1 ≤ b) (q : b ≤ 128) (r : 1 ≤ a) (s : a ≤ 128) where
+  word : ((b - 1) * 128 + (a - 1)) / 64 ≡ (b - 1) * 2 + (a - 1) / 64
+  word = omega arith
+
+  place : ((b - 1) * 128 + (a - 1)) % 64 ≡ (a - 1) % 64
+  place = omega arith
+
+  -- the word without its mark
+  dropped-each : (c d : ℕ) → in-row (set m ((b - 1) * 2 + (a - 1) / 64) (less (getD m ((b - 1) * 2 + (a - 1) / 64) 0) ((a - 1) % 64))) c d ≡ (in-row m c d and fails (c is b and d is a))
+  unfolding in-row without-bit
+  dropped-each c d = go (decide (1 upto c and c upto 128 and 1 upto d and d upto 128))
+    where
+      bits-after : bit (set m ((b - 1) * 2 + (a - 1) / 64) (less (getD m ((b - 1) * 2 + (a - 1) / 64) 0) ((a - 1) % 64))) ((c - 1) * 128 + (d - 1)) ≡ (bit m ((c - 1) * 128 + (d - 1)) and fails (((c - 1) * 128 + (d - 1)) is ((b - 1) * 128 + (a - 1))))
+      bits-after = subst (λ (l : List ℕ). bit l ((c - 1) * 128 + (d - 1)) ≡ (bit m ((c - 1) * 128 + (d - 1)) and fails (((c - 1) * 128 + (d - 1)) is ((b - 1) * 128 + (a - 1))))) (rw (word, place) refl) (bit-less m ((b - 1) * 128 + (a - 1)) (omega arith) ((c - 1) * 128 + (d - 1)))
+
+      same : 1 ≤ c → c ≤ 128 → 1 ≤ d → d ≤ 128 → (c is b and d is a) ≡ (((c - 1) * 128 + (d - 1)) is ((b - 1) * 128 + (a - 1)))
+      same i j k l =
+          same-test (λ h. let u : c ≡ b = is→ (and→ h .0) in let v : d ≡ a = is→ (and→ h .1) in →is (omega arith))
+          (λ h. let u : (c - 1) * 128 + (d - 1) ≡ (b - 1) * 128 + (a - 1) = is→ h in →and (→is (omega arith)) (→is (omega arith)))
+
+      go : ((1 upto c and c upto 128 and 1 upto d and d upto 128) ≡ true) ⊎ ((1 upto c and c upto 128 and 1 upto d and d upto 128) ≡ false)
+          → (1 upto c and c upto 128 and 1 upto d and d upto 128 and bit (set m ((b - 1) * 2 + (a - 1) / 64) (less (getD m ((b - 1) * 2 + (a - 1) / 64) 0) ((a - 1) % 64))) ((c - 1) * 128 + (d - 1))) ≡ (1 upto c and c upto 128 and 1 upto d and d upto 128 and bit m ((c - 1) * 128 + (d - 1)) and fails (c is b and d is a))
+      go (inr e) = and-no-left _ e ∙ sym (and-no-left _ (and-no-left _ e))
+      go (inl e) =
+          let x = and→ e in
+          let y = and→ (x .0) in
+          let z = and→ (y .0) in
+          and-true e ∙ bits-after ∙ sym (ap (λ (t : Bool). t and fails (c is b and d is a)) (and-true e) ∙ ap (λ (t : Bool). bit m ((c - 1) * 128 + (d - 1)) and fails t) (same (upto→ (z .0)) (upto→ (z .1)) (upto→ (y .1)) (upto→ (x .1))))
+
+  pub row-dropped : {w : ℕ} → w ≡ less (getD m ((b - 1) * 2 + (a - 1) / 64) 0) ((a - 1) % 64) → Drops m a b (set m ((b - 1) * 2 + (a - 1) / 64) w)
+  row-dropped f = rw f (record { size = length-set m _ _; each = dropped-each })
 
 -- A SET IS ITS MEMBERS, AND ROWS ARE THEIR SETS: two runs of words with the same vertices are one
 pub same-set : (r s : List ℕ) → length r ≡ 2 → length s ≡ 2 → ((i : ℕ) → getD r i 0 < 2 ^ 64) → ((i : ℕ) → getD s i 0 < 2 ^ 64) → ((t : ℕ) → takes-part 128 r t ≡ takes-part 128 s t) → r ≡ s

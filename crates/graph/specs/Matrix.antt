@@ -44,6 +44,11 @@ pub record Joins (m set : List ℕ) (b : ℕ) (m′ : List ℕ) : Type 0 where
   pub size : length m′ ≡ length m
   pub each : length m ≡ row-words → (c a : ℕ) → in-row m′ c a ≡ (in-row m c a or (c is b and 1 upto b and b upto vertices and takes-part vertices set a))
 
+-- what `lent_drop` does to rows: a is not marked in the row of b any more
+pub record Drops (m : List ℕ) (a b : ℕ) (m′ : List ℕ) : Type 0 where
+  pub size : length m′ ≡ length m
+  pub each : (c d : ℕ) → in-row m′ c d ≡ (in-row m c d and fails (c is b and d is a))
+
 -- the dictionary-first of the lists that pass, or none where none does
 pub data Earliest (passes : List ℕ → Bool) : Option (List ℕ) → Type 0 where
   earliest : {w : List ℕ} → First dictionary passes w → Earliest passes (just w)

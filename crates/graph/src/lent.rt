@@ -1,8 +1,8 @@
 // Rows that are lent as a slice.
 ghost use mathlib.Core.Path.{_≡_};
-ghost use Prim.Native.Nat.{ℕ};
+ghost use Prim.Native.Nat.{ℕ, _≤_};
 ghost use lib.ListN.{length};
-ghost use Rattle.graph.specs.Matrix.{vertices, row-words, takes-part, in-row, Joins};
+ghost use Rattle.graph.specs.Matrix.{vertices, row-words, takes-part, in-row, Joins, Drops};
 use super::VERTICES;
 use super::WORDS;
 
@@ -35,4 +35,14 @@ pub fn lent_join(m: &mut [u64], those: [u64; WORDS], b: usize)
     let i = (b - 1) * WORDS;
     m[i] = bits::union(m[i], those[0]);
     m[i + 1] = bits::union(m[i + 1], those[1]);
+}
+
+// Takes a out of the row of b, so that no edge leads from a to b.
+pub fn lent_drop(m: &mut [u64], a: usize, b: usize)
+    requires { ⌜ (length (now m) ≡ row-words) × (1 ≤ a) × (a ≤ vertices) × (1 ≤ b) × (b ≤ vertices) ⌝ }
+    ensures { λ _. ⌜ Drops (now (m .entry)) a b (now (m .exit)) ⌝ }
+{
+    let k = a - 1;
+    let i = (b - 1) * WORDS + k / 64;
+    m[i] = bits::without_mark(m[i], k % 64);
 }

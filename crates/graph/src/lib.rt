@@ -9,6 +9,7 @@ mod reach;
 mod rows;
 mod sets;
 
+pub use lent::lent_drop;
 pub use lent::lent_join;
 pub use lent::lent_row;
 pub use order::keeps;

@@ -17,7 +17,7 @@ use Rattle.live.specs.declared.step.Live.{Live}
 use Rattle.live.specs.declared.step.Told.{Told}
 use Rattle.live.specs.Inner.Accepted.{Accepted}
 use Rattle.live.specs.Inner.Table.{Table, Sized}
-use Rattle.live.specs.Inner.Held.{Held, Holds, holds-steps, holds-answer}
+use Rattle.live.specs.Inner.Held.{Tidy, Holds, holds-steps, holds-answer}
 use Rattle.live.specs.Inner.Took.{Took, Takes}
 use Rattle.live.proofs.Shut.{commit-told}
 
@@ -75,7 +75,7 @@ module _ (most : ℕ) (whole : List ℕ → Bool) (log : List ℕ) (k t x s : �
 -- A STEP TAKEN
 module _ {l : Live} {b : Table} {k t x s : ℕ} where
   -- a bad one changes nothing
-  pub took-refused : (n : ℕ) → (n ≡ 0 → ⊥) → Sized b → l .count ≤ places → ((log : List ℕ) → Held log (l .top) (l .count) b → number numbers (full places) log k t x s ≡ n)
+  pub took-refused : (n : ℕ) → (n ≡ 0 → ⊥) → Sized b → l .count ≤ places → ((log : List ℕ) → Tidy log (l .top) (l .count) b → number numbers (full numbers places) log k t x s ≡ n)
       → Took l b k t x s (record { live = l; said = Said.Refused n }) b
   unfolding stands
   took-refused n d size room f =
@@ -83,13 +83,13 @@ module _ {l : Live} {b : Table} {k t x s : ℕ} where
         sized = size;
         room = room;
         stood = sym (if-false _ _ refl);
-        answers = λ log h. says-refused numbers (full places) log k t x s (f log h) d;
-        goes-on = λ log h _. (log, after-refused numbers (full places) log k t x s (f log h) d, h);
+        answers = λ log h. says-refused numbers (full numbers places) log k t x s (f log h) d;
+        goes-on = λ log h _. (log, after-refused numbers (full numbers places) log k t x s (f log h) d, h);
       }
 
   -- a good one that is no commit
   pub took-taken : {b′ : Table} (top count : ℕ) → (k ≡ 4 → ⊥) → Sized b′ → count ≤ places
-      → ((log : List ℕ) → Held log (l .top) (l .count) b → (number numbers (full places) log k t x s ≡ 0) × Held (more log k t x s) top count b′)
+      → ((log : List ℕ) → Tidy log (l .top) (l .count) b → (number numbers (full numbers places) log k t x s ≡ 0) × Tidy (more log k t x s) top count b′)
       → Took l b k t x s (record { live = record { standing = l .standing; top = top; count = count }; said = Taken }) b′
   unfolding stands
   took-taken top count n size room f =
@@ -97,27 +97,27 @@ module _ {l : Live} {b : Table} {k t x s : ℕ} where
         sized = size;
         room = room;
         stood = sym (if-false _ _ refl);
-        answers = λ log h. says-taken numbers (full places) log k t x s (f log h .0) n;
-        goes-on = λ log h q. let r = f log h in (more log k t x s, after-good numbers (full places) log k t x s (r .0) (says-taken numbers (full places) log k t x s (r .0) n) q, r .1);
+        answers = λ log h. says-taken numbers (full numbers places) log k t x s (f log h .0) n;
+        goes-on = λ log h q. let r = f log h in (more log k t x s, after-good numbers (full numbers places) log k t x s (r .0) (says-taken numbers (full numbers places) log k t x s (r .0) n) q, r .1);
       }
 
   -- a commit that ends it
-  pub took-last : {b′ : Table} (a : Said) (n : ℕ) → stands a ≡ true → n ≡ answer-number a → Sized b′ → l .count ≤ places → ((log : List ℕ) → Held log (l .top) (l .count) b → a ≡ says numbers (full places) (going log) k t x s)
+  pub took-last : {b′ : Table} (a : Said) (n : ℕ) → stands a ≡ true → n ≡ answer-number a → Sized b′ → l .count ≤ places → ((log : List ℕ) → Tidy log (l .top) (l .count) b → a ≡ says numbers (full numbers places) (going log) k t x s)
       → Took l b k t x s (record { live = record { standing = n; top = l .top; count = l .count }; said = a }) b′
   took-last a n e d size room f = record { sized = size; room = room; stood = d ∙ sym (if-true _ _ e); answers = f; goes-on = λ log h q. absurd (not-both e q) }
 
   -- .. and one that does not
-  pub took-yes : {b′ : Table} → Sized b′ → l .count ≤ places
-      → ((log : List ℕ) → Held log (l .top) (l .count) b → (number numbers (full places) log k t x s ≡ 0) × (Yes ≡ says numbers (full places) (going log) k t x s) × Held (more log k t x s) (l .top) (l .count) b′)
-      → Took l b k t x s (record { live = l; said = Yes }) b′
+  pub took-yes : {b′ : Table} (count : ℕ) → Sized b′ → count ≤ places
+      → ((log : List ℕ) → Tidy log (l .top) (l .count) b → (number numbers (full numbers places) log k t x s ≡ 0) × (Yes ≡ says numbers (full numbers places) (going log) k t x s) × Tidy (more log k t x s) (l .top) count b′)
+      → Took l b k t x s (record { live = record { standing = l .standing; top = l .top; count = count }; said = Yes }) b′
   unfolding stands
-  took-yes size room f =
+  took-yes count size room f =
       record {
         sized = size;
         room = room;
         stood = sym (if-false _ _ refl);
         answers = λ log h. f log h .1;
-        goes-on = λ log h q. let r = f log h in (more log k t x s, after-good numbers (full places) log k t x s (r .0) (r .1) q, r .2);
+        goes-on = λ log h q. let r = f log h in (more log k t x s, after-good numbers (full numbers places) log k t x s (r .0) (r .1) q, r .2);
       }
 
 -- WHATEVER THE STATE HOLDS
@@ -166,11 +166,11 @@ module _ {l : Live} {b : Table} {k t x s : ℕ} where
       no-steps : l .standing ≡ 0 → ⊥
       no-steps z = ⊎-elim (λ n. omega arith) (λ n. omega arith) (standing-there a e)
 
-      same : (j : State) → Holds (l .standing) (l .top) (l .count) b j → a ≡ says numbers (full places) j k t x s
+      same : (j : State) → Holds (l .standing) (l .top) (l .count) b j → a ≡ says numbers (full numbers places) j k t x s
       same (going log) (holds-steps z h) = absurd (no-steps z)
       same (over c) (holds-answer g n) = same-standing a c e g (sym f ∙ n)
 
-      stays : (j : State) → Holds (l .standing) (l .top) (l .count) b j → Holds (l .standing) (l .top) (l .count) b (after numbers (full places) j k t x s)
+      stays : (j : State) → Holds (l .standing) (l .top) (l .count) b j → Holds (l .standing) (l .top) (l .count) b (after numbers (full numbers places) j k t x s)
       stays (going log) (holds-steps z h) = absurd (no-steps z)
       stays (over c) (holds-answer g n) = holds-answer g n
 
@@ -180,16 +180,16 @@ module _ {l : Live} {b : Table} {k t x s : ℕ} where
       none : (a : Said) → stands a ≡ true → l .standing ≡ answer-number a → ⊥
       none a e f = ⊎-elim (λ z. m (f ∙ z)) (λ z. n (f ∙ z)) (standing-there a e)
 
-      same : (j : State) → Holds (l .standing) (l .top) (l .count) b j → r .said ≡ says numbers (full places) j k t x s
+      same : (j : State) → Holds (l .standing) (l .top) (l .count) b j → r .said ≡ says numbers (full numbers places) j k t x s
       same (going log) (holds-steps z h) = c .answers log h
       same (over a) (holds-answer g e) = absurd (none a g e)
 
-      goes : (j : State) → Holds (l .standing) (l .top) (l .count) b j → Holds (r .live .standing) (r .live .top) (r .live .count) b′ (after numbers (full places) j k t x s)
+      goes : (j : State) → Holds (l .standing) (l .top) (l .count) b j → Holds (r .live .standing) (r .live .top) (r .live .count) b′ (after numbers (full numbers places) j k t x s)
       goes (over a) (holds-answer g e) = absurd (none a g e)
       goes (going log) (holds-steps z h) = go (decide (stands (r .said)))
         where
-          go : (stands (r .said) ≡ true) ⊎ (stands (r .said) ≡ false) → Holds (r .live .standing) (r .live .top) (r .live .count) b′ (after numbers (full places) (going log) k t x s)
-          go (inl e) = rw (after-stands numbers (full places) log k t x s (c .answers log h) e) (holds-answer e (c .stood ∙ if-true _ _ e))
+          go : (stands (r .said) ≡ true) ⊎ (stands (r .said) ≡ false) → Holds (r .live .standing) (r .live .top) (r .live .count) b′ (after numbers (full numbers places) (going log) k t x s)
+          go (inl e) = rw (after-stands numbers (full numbers places) log k t x s (c .answers log h) e) (holds-answer e (c .stood ∙ if-true _ _ e))
           go (inr e) = let q = c .goes-on log h e in rw (q .1) (holds-steps (c .stood ∙ if-false _ _ e ∙ z) (q .2))
 
   pub takes-breach : l .standing ≡ 66 → Sized b → l .count ≤ places → Takes l b k t x s (record { live = l; said = Breach }) b

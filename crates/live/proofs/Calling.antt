@@ -19,7 +19,7 @@ use Rattle.live.specs.Kept.{places}
 use Rattle.live.specs.LiveCall.{Buffers, buffers, call-refusal, LiveCall, answered}
 use Rattle.live.specs.declared.step.Live.{Live}
 use Rattle.live.specs.Inner.Table.{Table, Sized}
-use Rattle.live.specs.Inner.Held.{Held, Holds, holds-steps, holds-answer}
+use Rattle.live.specs.Inner.Held.{Tidy, Holds, holds-steps, holds-answer}
 use Rattle.live.specs.Inner.Took.{table}
 use Rattle.live.specs.Inner.Parts.{TakesPart, CallNumber}
 
@@ -113,7 +113,7 @@ module _ (b : Buffers) (part answers : List ℕ) where
 -- THE STATE as it is read and as it is put back
 module _ {standing top count : ℕ} {b : Table} where
   count-there : (j : State) {used : ℕ} → used ≡ (if count upto places then count else places) → Holds standing top count b j → Holds standing top used b j
-  count-there (going log) e (holds-steps z h) = let q = e ∙ if-true _ _ (→upto (h .room)) in holds-steps z (subst (λ (c : ℕ). Held log top c b) (sym q) h)
+  count-there (going log) e (holds-steps z h) = let q = e ∙ if-true _ _ (→upto (h .held .room)) in holds-steps z (subst (λ (c : ℕ). Tidy log top c b) (sym q) h)
   count-there (over a) e (holds-answer f g) = holds-answer f g
 
 pub used-few : {used : ℕ} (count : ℕ) → used ≡ (if count upto places then count else places) → used ≤ places

@@ -1,12 +1,12 @@
--- The rows hold the steps accepted, after a begin: one place more is in use.
-use mathlib.Core.Path.{_≡_, sym, ap, subst, _∙_}
+-- The rows hold the steps accepted, after a begin: a free place is in use.
+use mathlib.Core.Path.{_≡_, refl, sym, ap, subst, _∙_}
 use mathlib.Core.Bool.{Bool, true, false}
 use mathlib.Core.Logic.{_⊎_, inl, inr, ⊎-elim}
 use mathlib.Core.List.{List}
-use Prim.Native.Nat.{ℕ, suc, _≤_, _<_}
+use Prim.Native.Nat.{ℕ, _≤_, _<_}
 use native.Mathlib.Omega.{arith}
 use Rattle.words.specs.Tests.{_is_, _upto_, _and_, _or_, if_then_else_}
-use Rattle.words.proofs.Truth.{decide, not-both, same-test, and→, →and, or→, →or-right, is→, →is, upto→, →upto, not-upto→, if-true}
+use Rattle.words.proofs.Truth.{not-both, same-test, and→, →and, or→, →or-right, →is, upto→, →upto, not-upto→, if-true}
 use Rattle.graph.specs.Matrix.{in-row}
 use Rattle.verdict.specs.Limits.{objects}
 use Rattle.verdict.specs.Log.{steps, begun, committed, commit-step}
@@ -19,48 +19,52 @@ use Rattle.live.specs.Inner.Table.{Table, Sized, name-at, status-at, see
 use Rattle.live.specs.Inner.Held.{Row, Place, Held}
 use Rattle.live.proofs.Grows.{Grows, commit-step-same}
 use Rattle.live.proofs.Accepted.{Good, commit-step-is, good-uncommitted, accepted-grows, new-unbegun}
-use Rattle.live.proofs.StepFacts.{begun-grows, open-other, open-new, passed-grows, last-stays, begin-counts}
+use Rattle.live.proofs.StepFacts.{open-other, open-new, passed-grows, last-stays}
 use Rattle.live.proofs.Breaches.{breached-same}
 use Rattle.live.proofs.SeenGrows.{committed-same, edge-same}
 use Rattle.live.proofs.ChainGrows.{chain-same}
 use Rattle.live.proofs.Begins.{passed-same}
 use Rattle.live.proofs.Cycles.{no-edge-new, closed-alike}
 use Rattle.live.proofs.RowSteps.{row-as, row-other, row-begin}
+use Rattle.live.proofs.PlaceLaws.{here-or-not}
+use Rattle.live.proofs.Holding.{no-edge-there}
 
--- the place behind those in use is given to t, who sees what one that begins now would see
-pub record Placed (b b′ : Table) (count t : ℕ) : Type 0 where
+-- place p is given to t, who sees what one that begins now would see
+pub record Placed (b b′ : Table) (p t : ℕ) : Type 0 where
   pub sizes : Sized b′
-  pub names : (q : ℕ) → Place count q → name-at (b′ .rows) q ≡ name-at (b .rows) q
-  pub statuses : (q : ℕ) → Place count q → status-at (b′ .rows) q ≡ status-at (b .rows) q
-  pub seeings : (q : ℕ) → q ≤ count → (x : ℕ) → x < objects → sees-at (b′ .rows) q x ≡ sees-at (b .rows) q x
-  pub untils : (q : ℕ) → Place count q → until-at (b′ .rows) q ≡ until-at (b .rows) q
-  pub writings : (q : ℕ) → Place count q → writes-at (b′ .marks) q ≡ writes-at (b .marks) q
-  pub readings : (q : ℕ) → Place count q → reads-at (b′ .marks) q ≡ reads-at (b .marks) q
-  pub opens : (q : ℕ) → Place count q → open-at (b′ .opened) q ≡ open-at (b .opened) q
+  pub names : (q : ℕ) → Place places q → (q ≡ p → ⊥) → name-at (b′ .rows) q ≡ name-at (b .rows) q
+  pub statuses : (q : ℕ) → Place places q → (q ≡ p → ⊥) → status-at (b′ .rows) q ≡ status-at (b .rows) q
+  pub seeings : (q : ℕ) → q ≤ places → (q ≡ p → ⊥) → (x : ℕ) → x < objects → sees-at (b′ .rows) q x ≡ sees-at (b .rows) q x
+  pub untils : (q : ℕ) → Place places q → (q ≡ p → ⊥) → until-at (b′ .rows) q ≡ until-at (b .rows) q
+  pub bar : until-at (b′ .rows) 0 ≡ until-at (b .rows) 0
+  pub writings : (q : ℕ) → Place places q → (q ≡ p → ⊥) → writes-at (b′ .marks) q ≡ writes-at (b .marks) q
+  pub readings : (q : ℕ) → Place places q → (q ≡ p → ⊥) → reads-at (b′ .marks) q ≡ reads-at (b .marks) q
+  pub opens : (q : ℕ) → Place places q → (q ≡ p → ⊥) → open-at (b′ .opened) q ≡ open-at (b .opened) q
   pub edges : b′ .edges ≡ b .edges
-  pub name : name-at (b′ .rows) (suc count) ≡ t
-  pub status : status-at (b′ .rows) (suc count) ≡ 0
-  pub sees : (x : ℕ) → x < objects → sees-at (b′ .rows) (suc count) x ≡ sees-at (b .rows) 0 x
-  pub writes : writes-at (b′ .marks) (suc count) ≡ 0
-  pub reads : reads-at (b′ .marks) (suc count) ≡ 0
-  pub opened : open-at (b′ .opened) (suc count) ≡ t
+  pub name : name-at (b′ .rows) p ≡ t
+  pub status : status-at (b′ .rows) p ≡ 0
+  pub sees : (x : ℕ) → x < objects → sees-at (b′ .rows) p x ≡ sees-at (b .rows) 0 x
+  pub writes : writes-at (b′ .marks) p ≡ 0
+  pub reads : reads-at (b′ .marks) p ≡ 0
+  pub opened : open-at (b′ .opened) p ≡ t
 
 module _ {log log′ : List ℕ} {top count k t x s : ℕ} {b b′ : Table} (h : Held log top count b) (good : Good numbers log k t x) (g : Grows log k t x s log′) (whole : Whole log′)
-    (begin : k ≡ 1) (c : Placed b b′ count t) where
+    (begin : k ≡ 1) {p : ℕ} (u : Place places p) (free : name-at (b .rows) p ≡ 0) (c : Placed b b′ p t) where
   no-commit : k ≡ 4 → ⊥
   no-commit e = omega arith
 
   fresh : begun log (steps log) t ≡ false
   fresh = new-unbegun (h .accepted) t (good .above begin)
 
-  -- t has no place yet
-  new : (q : ℕ) → Place count q → t ≡ name-at (b .rows) q → ⊥
-  new q v e = not-both (subst (λ (z : ℕ). begun log (steps log) z ≡ true) (sym e) (h .row q v .began)) fresh
+  low : 1 ≤ t
+  low = good .in-range .0
 
-  -- a place is one of before, or the new one
-  which : (q : ℕ) → Place (suc count) q → Place count q ⊎ (q ≡ suc count)
-  which q v =
-      ⊎-elim (λ (e : (q upto count) ≡ true). inl (v .0, upto→ e)) (λ (e : (q upto count) ≡ false). let l : q ≤ suc count = v .1 in inr (omega (arith, not-upto→ e))) (decide (q upto count))
+  -- t has no place yet
+  pub new : (q : ℕ) → Place places q → t ≡ name-at (b .rows) q → ⊥
+  new q v e = not-both (subst (λ (z : ℕ). begun log (steps log) z ≡ true) (sym e) (h .row q v (omega (arith, low)) .began)) fresh
+
+  is-new : (q : ℕ) → q ≡ p → name-at (b′ .rows) q ≡ t
+  is-new q e = ap (name-at (b′ .rows)) e ∙ c .name
 
   fine : breached numbers log′ ≡ false
   fine = breached-same (h .accepted) good g whole no-commit ∙ h .fine
@@ -77,40 +81,34 @@ module _ {log log′ : List ℕ} {top count k t x s : ℕ} {b b′ : Table} (h :
       forth : (passed log v or (k is 1 and v upto t)) ≡ true → (v upto t) ≡ true
       forth e = ⊎-elim (λ z. →upto (let m : v ≤ top = upto→ (sym (h .highest v l) ∙ z) in omega (arith, above))) (λ z. and→ z .1) (or→ e)
 
-  placed : (v : ℕ) → begun log′ (steps log′) v ≡ true → (q : ℕ) × Place (suc count) q × (name-at (b′ .rows) q ≡ v)
-  placed v e =
-      ⊎-elim (λ z. let r = h .placed v z in let l : r .0 ≤ count = r .1 .1 in (r .0, (r .1 .0, omega arith), c .names (r .0) (r .1) ∙ r .2))
-      (λ z. (suc count, (omega arith, omega arith), c .name ∙ is→ (and→ z .1))) (or→ (sym (begun-grows g v) ∙ e))
-
-  once : (q r : ℕ) → Place (suc count) q → Place (suc count) r → name-at (b′ .rows) q ≡ name-at (b′ .rows) r → q ≡ r
-  once q r v w e = go (which q v) (which r w) e
+  once : (q r : ℕ) → Place places q → Place places r → 1 ≤ name-at (b′ .rows) q → name-at (b′ .rows) q ≡ name-at (b′ .rows) r → q ≡ r
+  once q r v w n e = go (here-or-not q p) (here-or-not r p)
     where
-      go : Place count q ⊎ (q ≡ suc count) → Place count r ⊎ (r ≡ suc count) → name-at (b′ .rows) q ≡ name-at (b′ .rows) r → q ≡ r
-      go (inl v) (inl w) e = h .once q r v w (sym (c .names q v) ∙ e ∙ c .names r w)
-      go (inl v) (inr y) e = absurd (new q v (sym (sym (c .names q v) ∙ e ∙ ap (name-at (b′ .rows)) y ∙ c .name)))
-      go (inr z) (inl w) e = absurd (new r w (sym (sym (c .names r w) ∙ sym e ∙ ap (name-at (b′ .rows)) z ∙ c .name)))
-      go (inr z) (inr y) e = z ∙ sym y
+      go : (q ≡ p) ⊎ (q ≡ p → ⊥) → (r ≡ p) ⊎ (r ≡ p → ⊥) → q ≡ r
+      go (inr y) (inr z) = h .once q r v w (subst (λ (i : ℕ). 1 ≤ i) (c .names q v y) n) (sym (c .names q v y) ∙ e ∙ c .names r w z)
+      go (inr y) (inl z) = absurd (new q v (sym (sym (c .names q v y) ∙ e ∙ is-new r z)))
+      go (inl y) (inr z) = absurd (new r w (sym (sym (c .names r w z) ∙ sym e ∙ is-new q y)))
+      go (inl y) (inl z) = y ∙ sym z
 
-  row : (q : ℕ) → Place (suc count) q → Row log′ (name-at (b′ .rows) q) (status-at (b′ .rows) q) (sees-at (b′ .rows) q) (writes-at (b′ .marks) q) (reads-at (b′ .marks) q)
-  row q v = go (which q v)
+  row : (q : ℕ) → Place places q → 1 ≤ name-at (b′ .rows) q → Row log′ (name-at (b′ .rows) q) (status-at (b′ .rows) q) (sees-at (b′ .rows) q) (writes-at (b′ .marks) q) (reads-at (b′ .marks) q)
+  row q v n = go (here-or-not q p)
     where
-      go : Place count q ⊎ (q ≡ suc count) → Row log′ (name-at (b′ .rows) q) (status-at (b′ .rows) q) (sees-at (b′ .rows) q) (writes-at (b′ .marks) q) (reads-at (b′ .marks) q)
-      go (inl v) = row-as (row-other (h .accepted) good g (new q v) (h .row q v)) (c .names q v) (c .statuses q v) (c .seeings q (v .1)) (c .writings q v) (c .readings q v)
-      go (inr z) =
+      go : (q ≡ p) ⊎ (q ≡ p → ⊥) → Row log′ (name-at (b′ .rows) q) (status-at (b′ .rows) q) (sees-at (b′ .rows) q) (writes-at (b′ .marks) q) (reads-at (b′ .marks) q)
+      go (inr d) =
+          row-as (row-other (h .accepted) good g (new q v) (h .row q v (subst (λ (i : ℕ). 1 ≤ i) (c .names q v d) n))) (c .names q v d) (c .statuses q v d) (c .seeings q (v .1) d) (c .writings q v d) (c .readings q v d)
+      go (inl z) =
           row-as (row-begin (h .accepted) good g begin (h .last))
-          (ap (name-at (b′ .rows)) z ∙ c .name) (ap (status-at (b′ .rows)) z ∙ c .status) (λ y l. ap (λ (w : ℕ). sees-at (b′ .rows) w y) z ∙ c .sees y l) (ap (writes-at (b′ .marks)) z ∙ c .writes) (ap (reads-at (b′ .marks)) z ∙ c .reads)
+          (is-new q z) (ap (status-at (b′ .rows)) z ∙ c .status) (λ y l. ap (λ (w : ℕ). sees-at (b′ .rows) w y) z ∙ c .sees y l) (ap (writes-at (b′ .marks)) z ∙ c .writes) (ap (reads-at (b′ .marks)) z ∙ c .reads)
 
-  opened : (q : ℕ) → Place (suc count) q → open-at (b′ .opened) q ≡ (if is-open log′ (name-at (b′ .rows) q) then name-at (b′ .rows) q else 0)
-  opened q v = go (which q v)
+  opened : (q : ℕ) → Place places q → open-at (b′ .opened) q ≡ (if is-open log′ (name-at (b′ .rows) q) then name-at (b′ .rows) q else 0)
+  opened q v = go (here-or-not q p)
     where
-      go : Place count q ⊎ (q ≡ suc count) → open-at (b′ .opened) q ≡ (if is-open log′ (name-at (b′ .rows) q) then name-at (b′ .rows) q else 0)
-      go (inl v) = rw (c .names q v) (c .opens q v ∙ h .opened q v ∙ ap (λ (o : Bool). if o then name-at (b .rows) q else 0) (sym (open-other g (name-at (b .rows) q) (new q v))))
-      go (inr z) =
-          let n : name-at (b′ .rows) q ≡ t = ap (name-at (b′ .rows)) z ∙ c .name in
-          rw n (ap (open-at (b′ .opened)) z ∙ c .opened ∙ sym (if-true _ _ (open-new (h .accepted) good g begin)))
+      go : (q ≡ p) ⊎ (q ≡ p → ⊥) → open-at (b′ .opened) q ≡ (if is-open log′ (name-at (b′ .rows) q) then name-at (b′ .rows) q else 0)
+      go (inr d) = rw (c .names q v d) (c .opens q v d ∙ h .opened q v ∙ ap (λ (o : Bool). if o then name-at (b .rows) q else 0) (sym (open-other g (name-at (b .rows) q) (new q v))))
+      go (inl z) = rw (is-new q z) (ap (open-at (b′ .opened)) z ∙ c .opened ∙ sym (if-true _ _ (open-new (h .accepted) good g begin)))
 
-  until : (q : ℕ) → Place (suc count) q → committed log′ (name-at (b′ .rows) q) ≡ true → (v : ℕ) → 1 ≤ v → passed-by log′ (commit-step log′ (name-at (b′ .rows) q)) v ≡ (v upto until-at (b′ .rows) q)
-  until q w d v l = go (which q w)
+  until : (q : ℕ) → Place places q → committed log′ (name-at (b′ .rows) q) ≡ true → (v : ℕ) → 1 ≤ v → passed-by log′ (commit-step log′ (name-at (b′ .rows) q)) v ≡ (v upto until-at (b′ .rows) q)
+  until q w d v l = go (here-or-not q p)
     where
       old : committed log (name-at (b′ .rows) q) ≡ true
       old = sym (committed-same (h .accepted) good g no-commit (name-at (b′ .rows) q)) ∙ d
@@ -118,37 +116,39 @@ module _ {log log′ : List ℕ} {top count k t x s : ℕ} {b b′ : Table} (h :
       early : commit-step log (name-at (b′ .rows) q) < steps log
       early = commit-step-is (h .accepted) (name-at (b′ .rows) q) old .0
 
-      go : Place count q ⊎ (q ≡ suc count) → passed-by log′ (commit-step log′ (name-at (b′ .rows) q)) v ≡ (v upto until-at (b′ .rows) q)
-      go (inl w) = rw (commit-step-same g (name-at (b′ .rows) q) old) (passed-same g _ v (omega (arith, early)) ∙ rw (c .names q w, c .untils q w) (h .until q w (rw (c .names q w) at old) v l))
-      go (inr z) = absurd (not-both (rw (ap (name-at (b′ .rows)) z ∙ c .name) at old) (good-uncommitted (h .accepted) good))
+      go : (q ≡ p) ⊎ (q ≡ p → ⊥) → passed-by log′ (commit-step log′ (name-at (b′ .rows) q)) v ≡ (v upto until-at (b′ .rows) q)
+      go (inr n) = rw (commit-step-same g (name-at (b′ .rows) q) old) (passed-same g _ v (omega (arith, early)) ∙ rw (c .names q w n, c .untils q w n) (h .until q w (rw (c .names q w n) at old) v l))
+      go (inl z) = absurd (not-both (rw (is-new q z) at old) (good-uncommitted (h .accepted) good))
 
-  edges : (q r : ℕ) → Place (suc count) q → Place (suc count) r → in-row (b′ .edges) r q ≡ chain-edge log′ (name-at (b′ .rows) q) (name-at (b′ .rows) r)
-  edges q r v w = ap (λ (m : List ℕ). in-row m r q) (c .edges) ∙ go (which q v) (which r w) ∙ sym (chain-same (h .accepted) good g no-commit (name-at (b′ .rows) q) (name-at (b′ .rows) r))
+  edges : (q r : ℕ) → Place places q → Place places r → in-row (b′ .edges) r q ≡ chain-edge log′ (name-at (b′ .rows) q) (name-at (b′ .rows) r)
+  edges q r v w = ap (λ (m : List ℕ). in-row m r q) (c .edges) ∙ h .edges q r v w ∙ go (here-or-not q p) (here-or-not r p) ∙ sym (chain-same (h .accepted) good g no-commit (name-at (b′ .rows) q) (name-at (b′ .rows) r))
     where
-      is-new : (z : ℕ) → z ≡ suc count → name-at (b′ .rows) z ≡ t
-      is-new z e = ap (name-at (b′ .rows)) e ∙ c .name
+      go : (q ≡ p) ⊎ (q ≡ p → ⊥) → (r ≡ p) ⊎ (r ≡ p → ⊥) → chain-edge log (name-at (b .rows) q) (name-at (b .rows) r) ≡ chain-edge log (name-at (b′ .rows) q) (name-at (b′ .rows) r)
+      go (inr y) (inr z) = rw (c .names q v y, c .names r w z) refl
+      go (inr y) (inl z) = no-edge-there h _ _ (inr (ap (name-at (b .rows)) z ∙ free)) ∙ sym (no-edge-new (h .accepted) good _ _ (inr (is-new r z)))
+      go (inl y) z = no-edge-there h _ _ (inl (ap (name-at (b .rows)) y ∙ free)) ∙ sym (no-edge-new (h .accepted) good _ _ (inl (is-new q y)))
 
-      go : Place count q ⊎ (q ≡ suc count) → Place count r ⊎ (r ≡ suc count) → in-row (b .edges) r q ≡ chain-edge log (name-at (b′ .rows) q) (name-at (b′ .rows) r)
-      go (inl v) (inl w) = rw (c .names q v, c .names r w) (h .edges q r v w)
-      go (inl v) (inr z) = h .none q r (inr (omega arith)) ∙ sym (no-edge-new (h .accepted) good _ _ (inr (is-new r z)))
-      go (inr z) w = h .none q r (inl (omega arith)) ∙ sym (no-edge-new (h .accepted) good _ _ (inl (is-new q z)))
+  bar : (q : ℕ) → Place places q → status-at (b′ .rows) q ≡ 2 → until-at (b′ .rows) 0 ≤ until-at (b′ .rows) q
+  bar q v e =
+      ⊎-elim (λ (z : q ≡ p). let y : status-at (b′ .rows) q ≡ 0 = ap (status-at (b′ .rows)) z ∙ c .status in absurd (omega arith))
+      (λ d. let l = h .bar q v (sym (c .statuses q v d) ∙ e) in let f : until-at (b′ .rows) q ≡ until-at (b .rows) q = c .untils q v d in omega (arith, c .bar)) (here-or-not q p)
 
-  pub held-begin : count < places → Held log′ t (suc count) b′
-  held-begin free =
+  pub held-begin : {count′ : ℕ} → count ≤ count′ → p ≤ count′ → count′ ≤ places → Held log′ t count′ b′
+  held-begin {count′} more there room =
       record {
         sized = c .sizes;
         accepted = ok′;
         fine = fine;
         acyclic = closed-alike (h .accepted) ok′ (h .fine) fine (edge-same (h .accepted) good g no-commit) ∙ h .acyclic;
         highest = highest;
-        counted = ap suc (h .counted) ∙ sym (begin-counts g begin);
-        room = omega arith;
-        placed = placed;
+        room = room;
+        beyond = λ (q : ℕ) (l : count′ < q) (m : q ≤ places). c .names q (omega arith, m) (λ (e : q ≡ p). omega arith) ∙ h .beyond q (omega arith) m;
         once = once;
         row = row;
+        free = λ q v e. ⊎-elim (λ (z : q ≡ p). let y : t ≡ 0 = sym (is-new q z) ∙ e in absurd (omega (arith, low))) (λ d. c .statuses q v d ∙ h .free q v (sym (c .names q v d) ∙ e)) (here-or-not q p);
         opened = opened;
-        last = λ y l. c .seeings 0 (omega arith) y l ∙ h .last y l ∙ sym (last-stays (h .accepted) good g y no-commit);
+        last = λ y l. c .seeings 0 (omega arith) (λ (z : 0 ≡ p). omega (arith, u .0)) y l ∙ h .last y l ∙ sym (last-stays (h .accepted) good g y no-commit);
         until = until;
+        bar = bar;
         edges = edges;
-        none = λ q r e. ap (λ (m : List ℕ). in-row m r q) (c .edges) ∙ h .none q r (⊎-elim (λ (l : suc count < q). inl (omega arith)) (λ (l : suc count < r). inr (omega arith)) e);
       }

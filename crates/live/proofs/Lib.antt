@@ -15,7 +15,16 @@ pub mod Clashes
 pub mod RowSteps
 pub mod Cycles
 pub mod Holding
+pub mod Forgetting
+pub mod ForgetGrows
 pub mod HeldBegin
+pub mod HeldFreed
+pub mod KeepingLaws
+pub mod TidySteps
+pub mod InUse
+pub mod RoomLaws
+pub mod RoomSteps
+pub mod ForgetPasses
 pub mod Cells
 pub mod Comparisons
 pub mod PlaceLaws
@@ -24,8 +33,10 @@ pub mod AroundLaws
 pub mod Notes
 pub mod Numbers
 pub mod Answering
+pub mod Apart
 pub mod TookBegin
 pub mod TookInside
+pub mod TookAbort
 pub mod TookCommit
 pub mod PartLaws
 pub mod Calling

@@ -19,17 +19,17 @@ use Rattle.live.specs.Inner.Parts.{TakesPart}
 
 -- the numbers of the answers to a run, from a state
 unfoldable pub told : State → List ℕ → List ℕ
-told j run = map answer-number (all-says numbers (full places) j run)
+told j run = map answer-number (all-says numbers (full numbers places) j run)
 
 unfoldable pub ends : State → List ℕ → State
-ends j run = after-all numbers (full places) j run
+ends j run = after-all numbers (full numbers places) j run
 
 -- the first step of a run
-told-more : (j : State) (k t x s : ℕ) (rest : List ℕ) → told j (k ∷ t ∷ x ∷ s ∷ rest) ≡ answer-number (says numbers (full places) j k t x s) ∷ told (after numbers (full places) j k t x s) rest
+told-more : (j : State) (k t x s : ℕ) (rest : List ℕ) → told j (k ∷ t ∷ x ∷ s ∷ rest) ≡ answer-number (says numbers (full numbers places) j k t x s) ∷ told (after numbers (full numbers places) j k t x s) rest
 unfolding told all-says
 told-more j k t x s rest = refl
 
-ends-more : (j : State) (k t x s : ℕ) (rest : List ℕ) → ends j (k ∷ t ∷ x ∷ s ∷ rest) ≡ ends (after numbers (full places) j k t x s) rest
+ends-more : (j : State) (k t x s : ℕ) (rest : List ℕ) → ends j (k ∷ t ∷ x ∷ s ∷ rest) ≡ ends (after numbers (full numbers places) j k t x s) rest
 unfolding ends after-all
 ends-more j k t x s rest = refl
 
@@ -81,12 +81,12 @@ module _ {l l′ : Live} {b b′ : Table} {part answers : List ℕ} {n i : ℕ} 
       one-more : {j : State} → Reached l′ b′ part answers i j → Reached (r .live) b″ part (set answers i v) (i + 1) j
       one-more q =
           record {
-            now = after numbers (full places) (q .now) k t x s;
+            now = after numbers (full numbers places) (q .now) k t x s;
             holds = d .holds (q .now) (q .holds);
             ending = q .ending ∙ ap (ends (q .now)) here ∙ ends-more (q .now) k t x s (drop (4 * (i + 1)) part);
             telling = q .telling ∙ ap (λ (z : List ℕ). take i answers ++ z) (ap (told (q .now)) here ∙ told-more (q .now) k t x s (drop (4 * (i + 1)) part)
-                ∙ ap (λ (z : ℕ). z ∷ told (after numbers (full places) (q .now) k t x s) (drop (4 * (i + 1)) part)) (ap answer-number (sym (d .answers (q .now) (q .holds))) ∙ sym m))
-                ∙ sym (append-assoc (take i answers) (v ∷ []) _) ∙ ap (λ (z : List ℕ). z ++ told (after numbers (full places) (q .now) k t x s) (drop (4 * (i + 1)) part)) (sym stored);
+                ∙ ap (λ (z : ℕ). z ∷ told (after numbers (full numbers places) (q .now) k t x s) (drop (4 * (i + 1)) part)) (ap answer-number (sym (d .answers (q .now) (q .holds))) ∙ sym m))
+                ∙ sym (append-assoc (take i answers) (v ∷ []) _) ∙ ap (λ (z : List ℕ). z ++ told (after numbers (full numbers places) (q .now) k t x s) (drop (4 * (i + 1)) part)) (sym stored);
           }
 
   pub taking-all : n ≤ i → (before : List ℕ) → length before ≡ n → TakesPart l b part before l′ b′ answers
@@ -97,7 +97,7 @@ module _ {l l′ : Live} {b b′ : Table} {part answers : List ℕ} {n i : ℕ} 
         room = c .room;
         size = c .size ∙ sym e;
         answered = λ j h. sym (let q = c .reached j h in q .telling ∙ rw (nothing, take-all i answers (omega (arith, c .size))) (append-nil answers));
-        holds = λ j h. let q = c .reached j h in subst (Holds (l′ .standing) (l′ .top) (l′ .count) b′) (sym (q .ending ∙ ap (after-all numbers (full places) (q .now)) nothing)) (q .holds);
+        holds = λ j h. let q = c .reached j h in subst (Holds (l′ .standing) (l′ .top) (l′ .count) b′) (sym (q .ending ∙ ap (after-all numbers (full numbers places) (q .now)) nothing)) (q .holds);
       }
     where
       nothing : drop (4 * i) part ≡ []

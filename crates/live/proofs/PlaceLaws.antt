@@ -1,20 +1,24 @@
 -- Places found and given.
-use mathlib.Core.Path.{_≡_, refl, subst, _∙_}
+use mathlib.Core.Path.{_≡_, refl, sym, ap, subst, _∙_}
 use mathlib.Core.Bool.{true, false}
-use mathlib.Core.Logic.{_⊎_, inl, inr}
+use mathlib.Core.Logic.{_⊎_, inl, inr, ⊎-elim}
 use mathlib.Core.List.{List}
 use Prim.Native.Nat.{ℕ, _+_, _-_, _*_, _%_, _≤_, _<_}
 use native.Mathlib.Omega.{arith}
 use lib.ListN.{length, getD, set, length-set}
 use Rattle.words.specs.Tests.{_is_}
 use Rattle.words.proofs.Truth.{decide, is→, isnt→}
-use Rattle.live.specs.Inner.Table.{cell, sees-at, open-at}
+use Rattle.live.specs.Inner.Table.{cell, name-at, sees-at, open-at}
 use Rattle.live.specs.Inner.Held.{Place}
 use Rattle.live.specs.Inner.Places.{FoundAt, CopiesRow, Given}
 use Rattle.live.proofs.Cells.{Copying, stored-same, stored-other}
 
 pub one-up : {r : ℕ} → (r ≡ 0 → ⊥) → 1 ≤ r
 one-up n = omega arith
+
+-- a place is p, or another
+pub here-or-not : (q p : ℕ) → (q ≡ p) ⊎ (q ≡ p → ⊥)
+here-or-not q p = ⊎-elim (λ (e : (q is p) ≡ true). inl (is→ e)) (λ (e : (q is p) ≡ false). inr (isnt→ e)) (decide (q is p))
 
 -- A PLACE IS FOUND, looked for from the last on
 pub open-is : (opened : List ℕ) (p : ℕ) {t : ℕ} → getD opened (p - 1) 0 ≡ t → open-at opened p ≡ t
@@ -55,3 +59,18 @@ given {opened} {rows} {marks} {next} {p} {t} size low high c =
   where
     both : (q d : ℕ) → d < 67 → (q ≡ p → d ≡ 0 → ⊥) → (q ≡ p → d ≡ 1 → ⊥) → cell (set (set next (p * 67) t) (p * 67 + 1) 0) q d ≡ cell next q d
     both q d l m n = stored-other (set next (p * 67) t) p 1 (p * 67 + 1) 0 q d refl (omega arith) l n ∙ stored-other next p 0 (p * 67) t q d (omega arith) (omega arith) l m
+
+-- one place more is in use, and one more is free
+pub used-more : (rows : List ℕ) (p : ℕ) {n : ℕ} → n ≡ name-at rows p → (n ≡ 0 → ⊥) → ((q : ℕ) → 1 ≤ q → q < p → 1 ≤ name-at rows q) → (q : ℕ) → 1 ≤ q → q < p + 1 → 1 ≤ name-at rows q
+used-more rows p e d f q l k = go (decide (q is p))
+  where
+    go : ((q is p) ≡ true) ⊎ ((q is p) ≡ false) → 1 ≤ name-at rows q
+    go (inl z) = let y : q ≡ p = is→ z in subst (λ (i : ℕ). 1 ≤ i) (e ∙ ap (name-at rows) (sym y)) (one-up d)
+    go (inr z) = let y : q ≡ p → ⊥ = isnt→ z in f q l (omega arith)
+
+pub free-more : (rows : List ℕ) {m n : ℕ} (p : ℕ) → n ≡ name-at rows p → n ≡ 0 → ((q : ℕ) → p < q → q ≤ m → name-at rows q ≡ 0) → (q : ℕ) → p - 1 < q → q ≤ m → name-at rows q ≡ 0
+free-more rows p e z f q l k = go (decide (q is p))
+  where
+    go : ((q is p) ≡ true) ⊎ ((q is p) ≡ false) → name-at rows q ≡ 0
+    go (inl y) = let w : q ≡ p = is→ y in ap (name-at rows) w ∙ sym e ∙ z
+    go (inr y) = let d : q ≡ p → ⊥ = isnt→ y in f q (omega arith) k

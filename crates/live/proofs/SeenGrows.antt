@@ -1,4 +1,4 @@
--- Who has committed, one step later, and the edges read off what is seen: a step that is no commit changes none.
+-- Who has committed, one step later, and the edges read off what is seen: a step that is no commit changes none, and a commit none that does not touch its transaction.
 use mathlib.Core.Path.{_≡_, refl, sym, ap, _∙_}
 use mathlib.Core.Bool.{Bool, true, false}
 use mathlib.Core.Logic.{_⊎_, inl, inr, ⊎-elim}
@@ -66,11 +66,17 @@ module _ {most k t x s : ℕ} {log log′ : List ℕ} (ok : Accepted most log) (
   pub committed-here : k ≡ 4 → committed log′ t ≡ true
   committed-here commit = committed-grows g t ∙ →or-right _ (→and (→is commit) (→is refl))
 
-  -- A STEP THAT IS NO COMMIT
-  pub edge-same : (k ≡ 4 → ⊥) → (a b : ℕ) → seen-edge log′ a b ≡ seen-edge log a b
+  edge-between : (a b : ℕ) → committed log′ a ≡ committed log a → committed log′ b ≡ committed log b → seen-edge log′ a b ≡ seen-edge log a b
   unfolding edge-on edge-from-seen edge-to-replacer
-  edge-same n a b =
+  edge-between a b m n =
       seen-edge-is log′ a b
-      ∙ same-between log log′ a b (edge-on log a b) (edge-on log′ a b) (committed-same n a) (committed-same n b)
+      ∙ same-between log log′ a b (edge-on log a b) (edge-on log′ a b) m n
       (λ c d y. let p = committed-alike a c in let q = committed-alike b d in rw (p .wrote y, p .read y, p .sees y, q .wrote y, q .read y, q .sees y) refl)
       ∙ sym (seen-edge-is log a b)
+
+  -- A STEP THAT IS NO COMMIT, and edges that do not touch who commits
+  pub edge-same : (k ≡ 4 → ⊥) → (a b : ℕ) → seen-edge log′ a b ≡ seen-edge log a b
+  edge-same n a b = edge-between a b (committed-same n a) (committed-same n b)
+
+  pub edge-others : (a b : ℕ) → (t ≡ a → ⊥) → (t ≡ b → ⊥) → seen-edge log′ a b ≡ seen-edge log a b
+  edge-others a b p q = edge-between a b (committed-other a p) (committed-other b q)

@@ -1,15 +1,14 @@
 -- One step more, as a row sees it: what changes for the transaction of the step, and that nothing changes for the others.
-use mathlib.Core.Path.{_≡_, refl, sym, ap, subst, _∙_}
+use mathlib.Core.Path.{_≡_, refl, sym, subst, _∙_}
 use mathlib.Core.Bool.{true, false}
 use mathlib.Core.Logic.{_⊎_, inl, inr, ⊎-elim}
 use mathlib.Core.List.{List}
-use Prim.Native.Nat.{ℕ, zero, suc, _≤_, _<_}
+use Prim.Native.Nat.{ℕ, suc, _<_}
 use native.Mathlib.Omega.{arith}
-use Rattle.words.specs.Tests.{_is_, _upto_, _and_, _or_, fails, if_then_else_, count}
+use Rattle.words.specs.Tests.{_is_, _upto_, _and_, _or_, fails, if_then_else_}
 use Rattle.words.proofs.Truth.{decide, not-both, to-false, and→, →and, and-no-left, and-no-right, and-true, or→, →or-left, →or-right, or-no, →fails, is→, →is, →isnt, if-true, if-false, some→}
 use Rattle.verdict.specs.Log.{steps, kind, tx, obj, src, reads, writes, begins, commits, aborts, begun, ended, wrote, committed, writer, begin-step, commits-writer}
 use Rattle.live.specs.SoFar.{is-open, passed}
-use Rattle.live.specs.Kept.{begun-count}
 use Rattle.live.specs.Inner.Seen.{last-writer, seen, source-wanted, misreads, reads-first}
 use Rattle.live.proofs.Grows.{Grows, begin-before, begun-later, writer-here, writer-before, wanted-is, some-grows, begins-same, ends-same, begin-step-same, begin-step-here, wanted-same, wrote-same, writer-grows, last-same}
 use Rattle.live.specs.Inner.Accepted.{Accepted}
@@ -151,18 +150,3 @@ module _ {most k t x s : ℕ} {log log′ : List ℕ} (ok : Accepted most log) (
 
   pub open-ended : (k ≡ 4) ⊎ (k ≡ 5) → is-open log′ t ≡ false
   open-ended e = to-false _ (λ o. not-both (ended-grows g t ∙ →or-right _ (⊎-elim (λ q. →or-left _ (→and (→is q) (→is refl))) (λ q. →or-right _ (→and (→is q) (→is refl))) e)) (open→ log′ t o .1))
-
--- begins counted
-module _ {log log′ : List ℕ} {k t x s : ℕ} (g : Grows log k t x s log′) where
-  begins-early : (m : ℕ) → m ≤ steps log → count m (λ i. kind log′ i is 1) ≡ count m (λ i. kind log i is 1)
-  unfolding count
-  begins-early zero h = refl
-  begins-early (suc m) h = rw (g .kinds m (omega arith), begins-early m (omega arith)) refl
-
-  pub begin-counts : k ≡ 1 → begun-count log′ ≡ suc (begun-count log)
-  unfolding begun-count count
-  begin-counts e = rw (g .size) (if-true _ _ (→is (g .kind-here ∙ e)) ∙ ap suc (begins-early (steps log) (omega arith)))
-
-  pub no-begin-counts : (k ≡ 1 → ⊥) → begun-count log′ ≡ begun-count log
-  unfolding begun-count count
-  no-begin-counts n = rw (g .size) (if-false _ _ (→isnt (λ (q : kind log′ (steps log) ≡ 1). n (sym (g .kind-here) ∙ q))) ∙ begins-early (steps log) (omega arith))

@@ -18,19 +18,21 @@ use Rattle.live.specs.Kept.{places, full}
 use Rattle.live.specs.declared.step.Live.{Live}
 use Rattle.live.specs.Inner.Accepted.{Accepted}
 use Rattle.live.specs.Inner.Table.{Table, Sized, name-at, status-at, sees-at, until-at, open-at, writes-at, reads-at}
-use Rattle.live.specs.Inner.Held.{Row, Place, Held}
+use Rattle.live.specs.Inner.Held.{Row, Place, Held, Keeping, Tidy}
+use Rattle.live.specs.Inner.Forgetting.{GivesBack}
 use Rattle.live.specs.Inner.Around.{into-place, out-of-place, Finds}
 use Rattle.live.specs.Inner.Took.{range-number, rows-breach, Settles, Took}
 use Rattle.live.proofs.Accepted.{accepted-grows}
 use Rattle.live.proofs.StepFacts.{open-ended}
 use Rattle.live.proofs.RowSteps.{row-as, row-commit}
-use Rattle.live.proofs.Holding.{Touched, held-commit}
+use Rattle.live.proofs.Holding.{wide, Touched, held-commit}
+use Rattle.live.proofs.KeepingLaws.{keeping-commit}
 use Rattle.live.proofs.Committing.{breach-is, at-commit, closed-is}
 use Rattle.live.proofs.Cells.{open-here, open-away}
 use Rattle.live.proofs.Answering.{says-breach, says-closed, says-yes, took-last, took-yes}
 use Rattle.live.proofs.TookInside.{At, step-at}
 
-settled-sized : {b b′ : Table} {before after : List ℕ} {p t top n : ℕ} → Sized b → Settles b before after p t top n b′ → b′ .marks ≡ b .marks → Sized b′
+pub settled-sized : {b b′ : Table} {before after : List ℕ} {p t top n : ℕ} → Sized b → Settles b before after p t top n b′ → b′ .marks ≡ b .marks → Sized b′
 settled-sized {b} {p = p} size c m =
     record {
       opened = ap length (c .closes) ∙ length-set (b .opened) (p - 1) 0 ∙ size .opened;
@@ -39,7 +41,7 @@ settled-sized {b} {p = p} size c m =
       edges = c .joins .size ∙ size .edges;
     }
 
-module _ {log : List ℕ} {top count : ℕ} {b : Table} {k t x s p : ℕ} (h : Held log top count b) (a : At log b k t x s p) (place : Place count p) (commit : k ≡ 4) where
+module _ {log : List ℕ} {top count : ℕ} {b : Table} {k t x s p : ℕ} (h : Held log top count b) (a : At log b k t x s p) (place : Place places p) (commit : k ≡ 4) where
   pub later-accepted : Accepted numbers (more log k t x s)
   later-accepted = accepted-grows (h .accepted) (a .good) (a .grows) (a .whole)
 
@@ -49,14 +51,14 @@ module _ {log : List ℕ} {top count : ℕ} {b : Table} {k t x s p : ℕ} (h : H
 
   module _ (before after : List ℕ) (finds-before : Finds (into-place (b .rows) (b .marks) p) count before) (finds-after : Finds (out-of-place (b .rows) (b .marks) p) count after)
       (fine : breached numbers (more log k t x s) ≡ false) where
-    pub closed-there : (r : Bool) → Reaches (b .edges) after before r → closed numbers (more log k t x s) ≡ r
+    pub closed-there : {keeps : ℕ → Bool} → Keeping log b keeps → (r : Bool) → Reaches (b .edges) after before r → closed numbers (more log k t x s) ≡ r
     closed-there = closed-is h (a .good) (a .grows) (a .whole) commit p place (a .named) before after finds-before finds-after fine
 
     module _ {b′ : Table} (c : Settles b before after p t top count b′) (same-marks : b′ .marks ≡ b .marks) (open-edges : closed numbers (more log k t x s) ≡ false) where
       high : p ≤ 128
-      high = omega (arith, place .1, h .room)
+      high = place .1
 
-      touched : Touched b b′ count p
+      touched : Touched b b′ p
       unfolding name-at status-at sees-at until-at
       touched =
           record {
@@ -87,29 +89,48 @@ module _ {log : List ℕ} {top count : ℕ} {b : Table} {k t x s p : ℕ} (h : H
       pub held-settled : Held (more log k t x s) top count b′
       held-settled =
           held-commit h (a .good) (a .grows) (a .whole) p place (a .named) touched row opened (λ (z : k ≡ 1). omega arith) commit
-          (at-commit h (a .good) (a .grows) (a .whole) commit p place (a .named) before after finds-before finds-after) edges fine open-edges (c .until)
+          (at-commit h (a .good) (a .grows) (a .whole) commit p place (a .named) before after finds-before finds-after) edges fine open-edges (c .until) (c .bar)
           (λ y l. c .last y l ∙ ap (λ (z : Bool). if z then t else sees-at (b .rows) 0 y) (a .row .writing y l))
+
+      pub kept-settled : {keeps : ℕ → Bool} → Keeping log b keeps → Keeping (more log k t x s) b′ (λ v. keeps v or t is v)
+      kept-settled m = keeping-commit h m (a .good) (a .grows) (held-settled .accepted) fine place (a .named) commit (touched .names)
 
 no-begin : {k : ℕ} → k ≡ 4 → k ≡ 1 → ⊥
 no-begin e f = omega arith
 
 -- the three answers
-module _ {l : Live} {b : Table} {k t x s p : ℕ} (size : Sized b) (room : l .count ≤ places) (low : 1 ≤ t) (fine : 0 ≡ range-number k t x s) (commit : k ≡ 4) (place : Place (l .count) p) (here : open-at (b .opened) p ≡ t) where
+module _ (l : Live) {b : Table} {k t : ℕ} (x s : ℕ) {p : ℕ} (size : Sized b) (room : l .count ≤ places) (low : 1 ≤ t) (fine : 0 ≡ range-number k t x s) (commit : k ≡ 4) (place : Place (l .count) p) (here : open-at (b .opened) p ≡ t) where
+  -- the step, where the table holds a log
+  there : {log : List ℕ} → Tidy log (l .top) (l .count) b → At log b k t x s p
+  there y = step-at p (y .held) low fine (no-begin commit) (wide (y .held) p place) here
+
+  breach-told : {log : List ℕ} (y : Tidy log (l .top) (l .count) b) {r : Bool} → r ≡ rows-breach (b .rows) (b .marks) p → breached numbers (more log k t x s) ≡ r
+  breach-told y e = breach-there (y .held) (there y) (wide (y .held) p place) commit ∙ sym e
+
+  later : {log : List ℕ} → Tidy log (l .top) (l .count) b → Accepted numbers (more log k t x s)
+  later y = later-accepted (y .held) (there y) (wide (y .held) p place) commit
+
   pub commit-breach : true ≡ rows-breach (b .rows) (b .marks) p → Took l b k t x s (record { live = record { standing = 66; top = l .top; count = l .count }; said = Breach }) b
   unfolding stands answer-number
-  commit-breach e = took-last Breach 66 refl refl size room (λ log h. let a = step-at p h low fine (no-begin commit) place here in says-breach numbers (full places) log k t x s (a .numbered) commit (later-accepted h a place commit) (breach-there h a place commit ∙ sym e))
+  commit-breach e = took-last Breach 66 refl refl size room (λ log y. says-breach numbers (full numbers places) log k t x s (there y .numbered) commit (later y) (breach-told y e))
 
   module _ (no-breach : false ≡ rows-breach (b .rows) (b .marks) p) (before after : List ℕ) (finds-before : Finds (into-place (b .rows) (b .marks) p) (l .count) before) (finds-after : Finds (out-of-place (b .rows) (b .marks) p) (l .count) after) where
+    closed-told : {log : List ℕ} (y : Tidy log (l .top) (l .count) b) (r : Bool) → Reaches (b .edges) after before r → closed numbers (more log k t x s) ≡ r
+    closed-told y r c = closed-there (y .held) (there y) (wide (y .held) p place) commit before after finds-before finds-after (breach-told y no-breach) (y .keeping) r c
+
     pub commit-closed : Reaches (b .edges) after before true → Took l b k t x s (record { live = record { standing = 67; top = l .top; count = l .count }; said = CycleClosed }) b
     unfolding stands answer-number
-    commit-closed r = took-last CycleClosed 67 refl refl size room (λ log h.
-        let a = step-at p h low fine (no-begin commit) place here in
-        let f = breach-there h a place commit ∙ sym no-breach in
-        says-closed numbers (full places) log k t x s (a .numbered) commit (later-accepted h a place commit) f (closed-there h a place commit before after finds-before finds-after f true r))
+    commit-closed r = took-last CycleClosed 67 refl refl size room (λ log y. says-closed numbers (full numbers places) log k t x s (there y .numbered) commit (later y) (breach-told y no-breach) (closed-told y true r))
 
-    pub commit-yes : {b′ : Table} → Reaches (b .edges) after before false → Settles b before after p t (l .top) (l .count) b′ → b′ .marks ≡ b .marks → Took l b k t x s (record { live = l; said = Yes }) b′
-    commit-yes r c m = took-yes (settled-sized size c m) room (λ log h.
-        let a = step-at p h low fine (no-begin commit) place here in
-        let f = breach-there h a place commit ∙ sym no-breach in
-        let n = closed-there h a place commit before after finds-before finds-after f false r in
-        (a .numbered, says-yes numbers (full places) log k t x s (a .numbered) commit (later-accepted h a place commit) f n, held-settled h a place commit before after finds-before finds-after f c m n))
+    pub commit-yes : {b′ b″ : Table} {count : ℕ} → Reaches (b .edges) after before false → Settles b before after p t (l .top) (l .count) b′ → b′ .marks ≡ b .marks → GivesBack (l .count) b′ b″ count
+        → Took l b k t x s (record { live = record { standing = l .standing; top = l .top; count = count }; said = Yes }) b″
+    commit-yes {count = count} r c m d = took-yes count (d .sized (settled-sized size c m)) (omega (arith, d .room)) (λ log y.
+        let h = y .held in
+        let a = there y in
+        let u = wide h p place in
+        let f = breach-told y no-breach in
+        let n = closed-told y false r in (
+          a .numbered,
+          says-yes numbers (full numbers places) log k t x s (a .numbered) commit (later y) f n,
+          d .tidy (more log k t x s) (l .top) _ (held-settled h a u commit before after finds-before finds-after f c m n) (kept-settled h a u commit before after finds-before finds-after f c m n (y .keeping)),
+        ))

@@ -1,4 +1,4 @@
--- A step of an open transaction is taken: a read, a write, an abort or a commit at its place.
+-- A step of an open transaction is taken: a read or a write at its place.
 use mathlib.Core.Path.{_≡_, refl, sym, ap, subst, _∙_}
 use mathlib.Core.Bool.{true, false}
 use mathlib.Core.Logic.{_⊎_, inl, inr}
@@ -25,11 +25,12 @@ use Rattle.live.specs.Inner.Noting.{noted-status, NotesRead}
 use Rattle.live.specs.Inner.Took.{range-number, table, Took}
 use Rattle.live.proofs.Grows.{Grows, more-grows, more-whole}
 use Rattle.live.proofs.Accepted.{Good, good-step}
-use Rattle.live.proofs.StepFacts.{open-inside, open-ended}
-use Rattle.live.proofs.RowSteps.{row-as, row-write, marks-own, marks-first, row-right, row-wrong, row-abort}
-use Rattle.live.proofs.Holding.{open-there, Touched, held-inside}
+use Rattle.live.proofs.StepFacts.{open-inside}
+use Rattle.live.proofs.RowSteps.{row-as, row-write, marks-own, marks-first, row-right, row-wrong}
+use Rattle.live.proofs.Holding.{wide, open-there, Touched, held-inside}
+use Rattle.live.proofs.TidySteps.{tidy-inside}
 use Rattle.live.proofs.Numbers.{other-good}
-use Rattle.live.proofs.Cells.{stored-same, stored-other, writes-here, writes-away, writes-read, reads-here, reads-away, reads-write, open-here, open-away}
+use Rattle.live.proofs.Cells.{stored-same, stored-other, writes-here, writes-away, writes-read, reads-here, reads-away, reads-write}
 use Rattle.live.proofs.Answering.{took-taken}
 
 -- THE STATUS after a read: one entry at most is another
@@ -56,29 +57,29 @@ module _ (rows : List ℕ) (p s w : ℕ) (size : length rows ≡ 8643) (high : p
 pub record At (log : List ℕ) (b : Table) (k t x s p : ℕ) : Type 0 where
   pub named : name-at (b .rows) p ≡ t
   pub alive : is-open log t ≡ true
-  pub numbered : number numbers (full places) log k t x s ≡ 0
+  pub numbered : number numbers (full numbers places) log k t x s ≡ 0
   pub good : Good numbers log k t x
   pub grows : Grows log k t x s (more log k t x s)
   pub whole : Whole (more log k t x s)
   pub row : Row log t (status-at (b .rows) p) (sees-at (b .rows) p) (writes-at (b .marks) p) (reads-at (b .marks) p)
 
-pub step-at : {log : List ℕ} {top count : ℕ} {b : Table} {k t x s : ℕ} (p : ℕ) → Held log top count b → 1 ≤ t → 0 ≡ range-number k t x s → (k ≡ 1 → ⊥) → Place count p → open-at (b .opened) p ≡ t → At log b k t x s p
+pub step-at : {log : List ℕ} {top count : ℕ} {b : Table} {k t x s : ℕ} (p : ℕ) → Held log top count b → 1 ≤ t → 0 ≡ range-number k t x s → (k ≡ 1 → ⊥) → Place places p → open-at (b .opened) p ≡ t → At log b k t x s p
 step-at {log} {b = b} {k} {t} {x} {s} p h low fine other place here =
     let f = open-there h p t low place here in
-    let n = other-good (full places) log k t x s fine other (f .1) in
+    let n = other-good (full numbers places) log k t x s fine other (f .1) in
     record {
       named = f .0;
       alive = f .1;
       numbered = n;
-      good = good-step (full places) log k t x s n;
+      good = good-step (full numbers places) log k t x s n;
       grows = more-grows log (h .accepted .whole) k t x s;
       whole = more-whole log (h .accepted .whole) k t x s;
-      row = row-as (h .row p place) (sym (f .0)) refl (λ y m. refl) refl refl;
+      row = row-as (h .row p place (subst (λ (z : ℕ). 1 ≤ z) (sym (f .0)) low)) (sym (f .0)) refl (λ y m. refl) refl refl;
     }
 
-module _ {log : List ℕ} {top count : ℕ} {b : Table} {k t x s p : ℕ} (h : Held log top count b) (a : At log b k t x s p) (place : Place count p) (other : k ≡ 1 → ⊥) where
+module _ {log : List ℕ} {top count : ℕ} {b : Table} {k t x s p : ℕ} (h : Held log top count b) (a : At log b k t x s p) (place : Place places p) (other : k ≡ 1 → ⊥) where
   p-high : p ≤ 128
-  p-high = omega (arith, place .1, h .room)
+  p-high = place .1
 
   still : open-at (b .opened) p ≡ t → (k ≡ 4 → ⊥) → (k ≡ 5 → ⊥) → open-at (b .opened) p ≡ (if is-open (more log k t x s) t then t else 0)
   still here no-commit no-abort = here ∙ sym (if-true _ _ (open-inside (h .accepted) (a .good) (a .grows) other no-commit no-abort t ∙ a .alive))
@@ -90,17 +91,17 @@ module _ {log : List ℕ} {top count : ℕ} {b : Table} {k t x s p : ℕ} (h : H
 
     -- the rows and the marks as they are noted, with the source that is wanted
     noted : (w : ℕ) → w ≡ (if writer log x t then t else seen log t x) → rows′ ≡ noted-status (b .rows) p s w → length marks′ ≡ 256
-        → ((q : ℕ) → Place count q → writes-at marks′ q ≡ writes-at (b .marks) q) → ((q : ℕ) → Place count q → (q ≡ p → ⊥) → reads-at marks′ q ≡ reads-at (b .marks) q)
+        → ((q : ℕ) → Place places q → writes-at marks′ q ≡ writes-at (b .marks) q) → ((q : ℕ) → Place places q → (q ≡ p → ⊥) → reads-at marks′ q ≡ reads-at (b .marks) q)
         → ((y : ℕ) → y < objects → marked (reads-at marks′ p) y ≡ reads-first (more log k t x s) y t) → Held (more log k t x s) top count (table (b .opened) rows′ marks′ (b .edges))
     unfolding name-at status-at sees-at until-at
     noted w e f size ws rs m =
         held-inside h (a .good) (a .grows) (a .whole) p place (a .named) touched row (still here (λ (z : k ≡ 4). omega arith) (λ (z : k ≡ 5). omega arith)) other (λ (z : k ≡ 4). omega arith) refl
-        (λ y l. same 0 (2 + y) (omega arith) (λ (z : 0 ≡ p) _. omega (arith, place .0))) (same p 66 (omega arith) (λ _ (z : _≡_ {A = ℕ} 66 1). omega arith))
+        (λ y l. same 0 (2 + y) (omega arith) (λ (z : 0 ≡ p) _. omega (arith, place .0))) (same p 66 (omega arith) (λ _ (z : _≡_ {A = ℕ} 66 1). omega arith)) (same 0 66 (omega arith) (λ _ (z : _≡_ {A = ℕ} 66 1). omega arith))
       where
         same : (q c : ℕ) → c < 67 → (q ≡ p → c ≡ 1 → ⊥) → cell rows′ q c ≡ cell (b .rows) q c
         same q c l d = rw f (noted-cell (b .rows) p s w (h .sized .rows) p-high q c l d)
 
-        touched : Touched b (table (b .opened) rows′ marks′ (b .edges)) count p
+        touched : Touched b (table (b .opened) rows′ marks′ (b .edges)) p
         touched =
             record {
               sizes = record { opened = h .sized .opened; rows = rw f (noted-size (b .rows) p s w (h .sized .rows) p-high); marks = size; edges = h .sized .edges };
@@ -143,9 +144,9 @@ module _ {log : List ℕ} {top count : ℕ} {b : Table} {k t x s p : ℕ} (h : H
   held-write here write =
       held-inside h (a .good) (a .grows) (a .whole) p place (a .named) touched
       (row-as (row-write (h .accepted) (a .good) (a .grows) (a .row) write) refl refl (λ y l. refl) (writes-here (b .marks) p _ (h .sized .marks) (place .0) p-high) (reads-write (b .marks) p _ p))
-      (still here (λ (z : k ≡ 4). omega arith) (λ (z : k ≡ 5). omega arith)) other (λ (z : k ≡ 4). omega arith) refl (λ y l. refl) refl
+      (still here (λ (z : k ≡ 4). omega arith) (λ (z : k ≡ 5). omega arith)) other (λ (z : k ≡ 4). omega arith) refl (λ y l. refl) refl refl
     where
-      touched : Touched b (table (b .opened) (b .rows) (set (b .marks) ((p - 1) * 2) (bits.more (writes-at (b .marks) p) x)) (b .edges)) count p
+      touched : Touched b (table (b .opened) (b .rows) (set (b .marks) ((p - 1) * 2) (bits.more (writes-at (b .marks) p) x)) (b .edges)) p
       touched =
           record {
             sizes = record { opened = h .sized .opened; rows = h .sized .rows; marks = length-set (b .marks) ((p - 1) * 2) _ ∙ h .sized .marks; edges = h .sized .edges };
@@ -158,26 +159,18 @@ module _ {log : List ℕ} {top count : ℕ} {b : Table} {k t x s p : ℕ} (h : H
             opens = λ q v d. refl;
           }
 
-  -- AN ABORT
-  pub held-abort : k ≡ 5 → Held (more log k t x s) top count (table (set (b .opened) (p - 1) 0) (b .rows) (b .marks) (b .edges))
-  held-abort abort =
-      held-inside h (a .good) (a .grows) (a .whole) p place (a .named) touched (row-abort (h .accepted) (a .good) (a .grows) (a .row) abort)
-      (open-here (b .opened) p 0 (h .sized .opened) (place .0) p-high ∙ sym (if-false _ _ (open-ended (h .accepted) (a .good) (a .grows) (inr abort)))) other (λ (z : k ≡ 4). omega arith) refl (λ y l. refl) refl
-    where
-      touched : Touched b (table (set (b .opened) (p - 1) 0) (b .rows) (b .marks) (b .edges)) count p
-      touched =
-          record {
-            sizes = record { opened = length-set (b .opened) (p - 1) 0 ∙ h .sized .opened; rows = h .sized .rows; marks = h .sized .marks; edges = h .sized .edges };
-            names = λ q v. refl;
-            statuses = λ q v d. refl;
-            seeings = λ q v y l. refl;
-            untils = λ q v d. refl;
-            writings = λ q v d. refl;
-            readings = λ q v d. refl;
-            opens = λ q v d. open-away (b .opened) p 0 q (place .0) (v .0) d;
-          }
-
 -- WHAT IS TAKEN
+noted-names : {b : Table} {p t x s : ℕ} {rows′ marks′ : List ℕ} → Sized b → p ≤ 128 → NotesRead (b .rows) (b .marks) p t x s rows′ marks′ → (q : ℕ) → name-at rows′ q ≡ name-at (b .rows) q
+unfolding name-at
+noted-names {b} {p} {t} {x} {s} {rows′} size high n q = go (decide (marked (writes-at (b .marks) p) x))
+  where
+    same : (w : ℕ) → rows′ ≡ noted-status (b .rows) p s w → cell rows′ q 0 ≡ cell (b .rows) q 0
+    same w e = ap (λ (r : List ℕ). cell r q 0) e ∙ noted-cell (b .rows) p s w (size .rows) high q 0 (omega arith) (λ _ (z : _≡_ {A = ℕ} 0 1). omega arith)
+
+    go : (marked (writes-at (b .marks) p) x ≡ true) ⊎ (marked (writes-at (b .marks) p) x ≡ false) → cell rows′ q 0 ≡ cell (b .rows) q 0
+    go (inl o) = same t (n .after-own o .0)
+    go (inr o) = same (sees-at (b .rows) p x) (n .before-own o .0)
+
 noted-sized : {b : Table} {p t x s : ℕ} {rows′ marks′ : List ℕ} → Sized b → p ≤ 128 → NotesRead (b .rows) (b .marks) p t x s rows′ marks′ → Sized (table (b .opened) rows′ marks′ (b .edges))
 noted-sized {b} {p} {t} {x} {s} {rows′} {marks′} size high n = go (decide (marked (writes-at (b .marks) p) x))
   where
@@ -194,14 +187,19 @@ noted-sized {b} {p} {t} {x} {s} {rows′} {marks′} size high n = go (decide (m
 
 module _ {l : Live} {b : Table} {k t x s p : ℕ} (size : Sized b) (low : 1 ≤ t) (room : l .count ≤ places) (place : Place (l .count) p) (here : open-at (b .opened) p ≡ t) (fine : 0 ≡ range-number k t x s) (other : k ≡ 1 → ⊥) where
   pub inside-read : k ≡ 2 → {rows′ marks′ : List ℕ} → NotesRead (b .rows) (b .marks) p t x s rows′ marks′ → Took l b k t x s (record { live = l; said = Taken }) (table (b .opened) rows′ marks′ (b .edges))
-  inside-read e n = took-taken (l .top) (l .count) (λ (z : k ≡ 4). omega arith) (noted-sized size (omega (arith, place .1)) n) room (λ log h. let a = step-at p h low fine other place here in (a .numbered, held-read h a place other here e n))
+  inside-read e n =
+      let high : p ≤ 128 = omega (arith, place .1) in
+      took-taken (l .top) (l .count) (λ (z : k ≡ 4). omega arith) (noted-sized size high n) room (λ log y.
+      let h = y .held in
+      let u = wide h p place in
+      let a = step-at p h low fine other u here in
+      (a .numbered, tidy-inside y (a .good) (a .grows) (held-read h a u other here e n) other (λ (z : k ≡ 4). omega arith) (λ (z : k ≡ 5). omega arith) (λ q v. noted-names size high n q)))
 
   pub inside-write : k ≡ 3 → {marks′ : List ℕ} → marks′ ≡ set (b .marks) ((p - 1) * 2) (bits.more (writes-at (b .marks) p) x) → Took l b k t x s (record { live = l; said = Taken }) (table (b .opened) (b .rows) marks′ (b .edges))
   inside-write e f =
       rw f (took-taken (l .top) (l .count) (λ (z : k ≡ 4). omega arith) (record { opened = size .opened; rows = size .rows; marks = length-set (b .marks) ((p - 1) * 2) _ ∙ size .marks; edges = size .edges }) room
-      (λ log h. let a = step-at p h low fine other place here in (a .numbered, held-write h a place other here e)))
-
-  pub inside-abort : k ≡ 5 → Took l b k t x s (record { live = l; said = Taken }) (table (set (b .opened) (p - 1) 0) (b .rows) (b .marks) (b .edges))
-  inside-abort e =
-      took-taken (l .top) (l .count) (λ (z : k ≡ 4). omega arith) (record { opened = length-set (b .opened) (p - 1) 0 ∙ size .opened; rows = size .rows; marks = size .marks; edges = size .edges }) room
-      (λ log h. let a = step-at p h low fine other place here in (a .numbered, held-abort h a place other e))
+      (λ log y.
+      let h = y .held in
+      let u = wide h p place in
+      let a = step-at p h low fine other u here in
+      (a .numbered, tidy-inside y (a .good) (a .grows) (held-write h a u other here e) other (λ (z : k ≡ 4). omega arith) (λ (z : k ≡ 5). omega arith) (λ q v. refl))))

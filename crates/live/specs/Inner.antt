@@ -5,6 +5,7 @@ pub mod Chain
 pub mod Table
 pub mod Held
 pub mod Places
+pub mod Forgetting
 pub mod Noting
 pub mod Around
 pub mod Took

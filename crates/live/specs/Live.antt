@@ -21,4 +21,4 @@ pub data Calls : (run said : List ℕ) → Buffers → Type 0 where
 
 -- the answers to a run of steps
 unfoldable pub answers-to : List ℕ → List ℕ
-answers-to run = map answer-number (all-says numbers (full places) fresh run)
+answers-to run = map answer-number (all-says numbers (full numbers places) fresh run)

@@ -45,8 +45,8 @@ Keeps b j = Holds (getD (b .state) 0 0) (getD (b .state) 1 0) (getD (b .state) 2
 
 -- whatever state the buffers hold: each step of the part has its answer, and the buffers hold the state after them
 pub record Judges (lent : Buffers) (part : List ℕ) (left : Buffers) (answers : List ℕ) : Type 0 where
-  pub answered : (j : State) → Keeps lent j → answers ≡ map answer-number (all-says numbers (full places) j part)
-  pub kept : (j : State) → Keeps lent j → Keeps left (after-all numbers (full places) j part)
+  pub answered : (j : State) → Keeps lent j → answers ≡ map answer-number (all-says numbers (full numbers places) j part)
+  pub kept : (j : State) → Keeps lent j → Keeps left (after-all numbers (full numbers places) j part)
 
 -- A call: turned away, and nothing is changed; or answered
 pub data LiveCall (lent : Buffers) (part answers : List ℕ) (r : LiveAnswer) (left : Buffers) (answers′ : List ℕ) : Type 0 where

@@ -2,9 +2,11 @@
 mod answers;
 mod around;
 mod comparing;
+mod holder;
 mod noting;
 mod part;
 mod places;
+mod room;
 mod step;
 mod table;
 
@@ -72,7 +74,7 @@ fn call_number(
     0
 }
 
-// How many places are in use, as the state says it; never more than there are.
+// How many places there are to look at, as the state says it; never more than there are.
 fn places_used(count: u16) -> usize
     ensures { λ r. ⌜ r ≡ (if count upto places then count else places) ⌝ }
 {

@@ -4,13 +4,14 @@ use crate::table::PLACES;
 use crate::table::SEES;
 use crate::table::STATUS;
 use crate::table::WIDTH;
+use crate::table::name;
 ghost use mathlib.Core.Path.{_≡_};
 ghost use mathlib.Core.Bool.{true};
 ghost use Prim.Native.Nat.{_≤_};
 ghost use lib.ListN.{length};
 ghost use Rattle.live.specs.Inner.Table.{opened-entries, row-numbers, mark-words, open-at};
 ghost use Rattle.live.specs.Inner.Held.{Place};
-ghost use Rattle.live.specs.Inner.Places.{FoundAt, CopiesRow, Given};
+ghost use Rattle.live.specs.Inner.Places.{FoundAt, FreePlace, CopiesRow, Given};
 
 // Whether t is open at place p, of the first n.
 fn is_at(opened: &[u16], n: usize, t: u16, p: usize) -> bool
@@ -52,6 +53,21 @@ pub(crate) fn place_of(opened: &[u16], n: usize, t: u16) -> usize
         return p;
     }
     search_place(opened, n, t)
+}
+
+// The lowest of the first n places that is free; the one behind them where none is.
+pub(crate) fn free_place(rows: &[u16], n: usize) -> usize
+    requires { ⌜ (length (now rows) ≡ row-numbers) × (n ≤ 128) ⌝ }
+    ensures { λ r. ⌜ FreePlace (now (rows .entry)) n r ⌝ }
+{
+    let mut p: usize = 1;
+    while p <= n {
+        if name(rows, p) == 0 {
+            return p;
+        }
+        p += 1;
+    }
+    p
 }
 
 // Row p sees what row 0 sees.

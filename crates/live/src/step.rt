@@ -5,11 +5,15 @@ use crate::answers::Said;
 use crate::around::find_around;
 use crate::around::join_around;
 use crate::comparing::alike;
+use crate::holder::lower_bar;
 use crate::noting::note_read;
 use crate::noting::note_write;
 use crate::noting::put_last;
+use crate::places::free_place;
 use crate::places::give;
 use crate::places::place_of;
+use crate::room::free_row;
+use crate::room::give_back;
 use crate::table::DONE;
 use crate::table::PLACES;
 use crate::table::STATUS;
@@ -26,13 +30,14 @@ ghost use mathlib.Core.Path.{_≡_};
 ghost use mathlib.Core.List.{List};
 ghost use Prim.Native.Nat.{ℕ, _≤_};
 ghost use lib.ListN.{length};
-ghost use Rattle.words.specs.Tests.{_is_, _or_, if_then_else_};
+ghost use Rattle.words.specs.Tests.{_is_, _below_, _or_, if_then_else_};
 ghost use Rattle.live.specs.Kept.{places};
 ghost use Rattle.live.specs.Inner.Table.{Sized, opened-entries, row-numbers, mark-words, edge-words, open-at};
 ghost use Rattle.live.specs.Inner.Held.{Place};
 ghost use Rattle.live.specs.Inner.Took.{range-number, rows-breach, table, Settles, Took, Takes};
 
-// The small part of the state: the answer that stands, 0 where none does; the highest number begun; and how many places are in use.
+// The small part of the state: the answer that stands, 0 where none does; the highest number begun; and how many places there are to look at,
+// since all behind them are free.
 pub(crate) struct Live {
     pub standing: u16,
     pub top: u16,
@@ -96,6 +101,16 @@ fn breaches(rows: &[u16], marks: &[u64], p: usize) -> bool
     any_mark(minus(written, same))
 }
 
+// The higher of two numbers.
+fn higher(n: usize, p: usize) -> usize
+    ensures { λ r. ⌜ r ≡ (if n below p then p else n) ⌝ }
+{
+    if n < p {
+        return p;
+    }
+    n
+}
+
 // Keeps a commit at place p of transaction t: the edges around it, the last writers, and that it is open no more. Until now `top` is the highest number
 // begun.
 fn settle(
@@ -119,6 +134,7 @@ fn settle(
     put_last(rows, writes(marks, p), t);
     rows[p * WIDTH + STATUS] = DONE;
     rows[p * WIDTH + UNTIL] = top;
+    lower_bar(rows, top);
     opened[p - 1] = 0;
 }
 
@@ -136,19 +152,19 @@ impl Live {
                 said: Said::Refused(7),
             };
         }
-        let count = self.count;
-        if PLACES <= count {
+        let n = self.count;
+        let p = free_place(rows, n);
+        if PLACES < p {
             return Told {
                 live: self,
                 said: Said::Refused(18),
             };
         }
-        let p = count + 1;
         give(opened, rows, marks, p, t);
         let live = Live {
             standing: self.standing,
             top: t,
-            count: p,
+            count: higher(n, p),
         };
         Told {
             live,
@@ -198,9 +214,34 @@ impl Live {
             };
         }
         settle(opened, rows, marks, edges, before, after, p, t, self.top, n);
+        let live = Live {
+            standing: self.standing,
+            top: self.top,
+            count: give_back(opened, rows, edges, n),
+        };
         Told {
-            live: self,
+            live,
             said: Said::Yes,
+        }
+    }
+
+    // An abort at place p: its transaction is forgotten at once.
+    fn abort(self, opened: &mut [u16], rows: &mut [u16], edges: &mut [u64], p: usize) -> Told
+        requires { ⌜ (length (now opened) ≡ opened-entries) × (length (now rows) ≡ row-numbers) × (length (now edges) ≡ edge-words) × (self .count ≤ places) × Place (self .count) p ⌝ }
+        ensures { λ r. ⌜ ((marks : List ℕ) (k t x s : ℕ) → length marks ≡ mark-words → 1 ≤ t → open-at (now (opened .entry)) p ≡ t → k ≡ 5 → 0 ≡ range-number k t x s
+            → Took self (table (now (opened .entry)) (now (rows .entry)) marks (now (edges .entry))) k t x s r
+            (table (now (opened .exit)) (now (rows .exit)) marks (now (edges .exit)))) ⌝ }
+    {
+        opened[p - 1] = 0;
+        free_row(rows, p);
+        let live = Live {
+            standing: self.standing,
+            top: self.top,
+            count: give_back(opened, rows, edges, self.count),
+        };
+        Told {
+            live,
+            said: Said::Taken,
         }
     }
 
@@ -237,11 +278,7 @@ impl Live {
             };
         }
         if k == 5 {
-            opened[p - 1] = 0;
-            return Told {
-                live: self,
-                said: Said::Taken,
-            };
+            return self.abort(opened, rows, edges, p);
         }
         self.commit(opened, rows, marks, edges, p, t)
     }

@@ -1,4 +1,5 @@
-// How the lent buffers keep the rows of the transactions: a row for each place, and row 0 for one that begins now.
+// How the lent buffers keep the rows of the transactions: a row for each place, and row 0 for one that begins now. A free place has number 0. Of row 0,
+// the first number and the last are for who holds all that are kept (holder.rt).
 ghost use mathlib.Core.Path.{_≡_};
 ghost use Prim.Native.Nat.{_≤_, _<_};
 ghost use lib.ListN.{length};

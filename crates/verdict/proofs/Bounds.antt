@@ -2,7 +2,6 @@
 use mathlib.Core.Path.{_≡_, refl, sym}
 use mathlib.Core.Bool.{Bool, true, false}
 use mathlib.Core.List.{List, [], _∷_}
-use mathlib.Core.Logic.{⊎-elim}
 use Prim.Native.Nat.{ℕ, zero, suc, _≤_, _<_}
 use native.Mathlib.Omega.{arith}
 use lib.ListN.{length}
@@ -13,7 +12,8 @@ use Rattle.graph.specs.Order.{once-each, is-order}
 use Rattle.graph.specs.Cycle.{is-cycle}
 use Rattle.verdict.specs.Outcome.{order, cycle, Outcome, none, unclean, OfGraph, shows-order, shows-cycle}
 use Rattle.graph.specs.Shows as shows
-use Rattle.words.proofs.Truth.{decide, to-true, to-false, and→, is→, below→, not-below→, if-true, if-false, some→, lowest-is, lowest-bound, highest-is, highest-none, count-above}
+use Rattle.words.proofs.Truth.{to-true, to-false, and→, is→, below→, not-below→, some→, lowest-is, lowest-bound, highest-is, highest-none, count-above}
+use Rattle.words.proofs.Counting.{count-most}
 use Rattle.words.proofs.Places.{member-head, member-tail, all→}
 use Rattle.graph.proofs.Judge.{nodes, nodes-length, there-node, once-over, once-length, cycle-over, cycle-length}
 use Rattle.verdict.specs.Limits.{transactions, objects, most-steps}
@@ -146,14 +146,6 @@ module _ (on : ℕ → ℕ → ℕ → ℕ → Bool) where
   reasons-upto [] f = no-entry
   reasons-upto (a ∷ c) f = leading-upto a (a ∷ c) f
 
-count-upto : (n : ℕ) (p : ℕ → Bool) → count n p ≤ n
-unfolding count
-count-upto zero p = omega arith
-count-upto (suc n) p =
-    let r : count n p ≤ n = count-upto n p in
-    ⊎-elim (λ (k : p n ≡ true). let e : count (suc n) p ≡ suc (count n p) = if-true _ _ k in omega arith)
-    (λ (k : p n ≡ false). let e : count (suc n) p ≡ count n p = if-false _ _ k in omega arith) (decide (p n))
-
 module _ (log : List ℕ) (well : log-refusal log ≡ Passed) where
   formed : Well transactions log
   formed = well-formed log well
@@ -162,7 +154,7 @@ module _ (log : List ℕ) (well : log-refusal log ≡ Passed) where
   unfolding committed-count
   few-committed =
       let h : steps log ≤ most-steps = steps-within log well in
-      let k : committed-count log ≤ steps log = count-upto (steps log) _ in
+      let k : committed-count log ≤ steps log = count-most (steps log) _ in
       omega arith
 
   pub search-within : Within (search-refusal log)

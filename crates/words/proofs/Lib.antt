@@ -1,5 +1,6 @@
 -- Laws about these words.
 pub mod Truth
+pub mod Counting
 pub mod Places
 pub mod Entries
 pub mod Dictionary

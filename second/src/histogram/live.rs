@@ -1,8 +1,12 @@
 //! The outcomes of watched texts and of streams.
 
-use crate::live::Said;
-use crate::make::draft::{READ, WRITE};
+use crate::forgetful::{good_steps, misses_cycle, EDGES_ALONE, OVERLAPS_ALONE};
+use crate::live::{Said, ROOM};
+use crate::log::{Kind, Step};
+use crate::make::draft::{BEGIN, READ, WRITE};
 use crate::make::Answered;
+use crate::room::Room;
+use crate::so_far::{begun, SoFar};
 
 /// The different answers to the lines of a watched text, and what a text has
 /// beside its steps.
@@ -44,7 +48,82 @@ pub fn of_stream(stream: &[Answered]) -> Vec<String> {
             }
         }
     }
+    [met, of_room(stream)].concat()
+}
+
+/// What room given back comes to.
+fn of_room(stream: &[Answered]) -> Vec<String> {
+    let good = good_steps(stream);
+    let steps: Vec<Step> = good.iter().map(|(step, _)| *step).collect();
+    let mut met = refused_18(stream);
+    if begun(&steps).len() > ROOM {
+        met.push("more than 128 begun".to_string());
+        if let Some((_, said)) = good.last().filter(|(_, said)| said.stands()) {
+            met.push(format!("{} after more than 128 begun", said.line()));
+        }
+    }
+    for said in [Said::Yes, Said::Breach] {
+        if reads_forgotten(&good, &steps, said) {
+            met.push(format!("{} to a reader of one forgotten", said.line()));
+        }
+    }
+    if misses_cycle(OVERLAPS_ALONE, stream) {
+        met.push("cycle closed, and missed by overlaps alone".to_string());
+    }
+    if misses_cycle(EDGES_ALONE, stream) {
+        met.push("cycle closed, and missed by edges alone".to_string());
+    }
     met
+}
+
+/// How many were open when 18 came, and what was taken after it.
+fn refused_18(stream: &[Answered]) -> Vec<String> {
+    let mut met = Vec::new();
+    let full = |(_, said): &Answered| *said == Said::Refused(18);
+    for k in (0..stream.len()).filter(|&k| full(&stream[k])) {
+        let steps: Vec<Step> = good_steps(&stream[..k]).iter().map(|good| good.0).collect();
+        let open = SoFar::new(&steps).open.len();
+        let begins = |(step, said): &&Answered| step[0] == BEGIN && *said == Said::Taken;
+        let later: Vec<u16> = stream[k..].iter().filter(begins).map(|a| a.0[1]).collect();
+        met.push(format!("refused=18 with {} open", open_words(open)));
+        if !later.is_empty() {
+            met.push("a begin after refused=18".to_string());
+        }
+        let mut after = stream[k..].iter().skip_while(|a| !begins(a));
+        if after.any(full) {
+            met.push("a begin after refused=18, and that again".to_string());
+        }
+        if later.contains(&stream[k].0[1]) {
+            met.push("a begin of one that got 18".to_string());
+        }
+    }
+    distinct(met.into_iter())
+}
+
+fn open_words(open: usize) -> &'static str {
+    match open {
+        0..=8 => "few",
+        128 => "128",
+        _ => "some",
+    }
+}
+
+/// One that gets this to its commit has read from one that was forgotten then.
+fn reads_forgotten(good: &[(Step, Said)], steps: &[Step], said: Said) -> bool {
+    let gets = |tx: usize| {
+        let mut commits = good.iter().filter(|(s, _)| s.kind == Kind::Commit);
+        commits.any(|(s, is)| s.tx == tx && *is == said)
+    };
+    let mut reads = (0..steps.len()).filter(|&k| steps[k].kind == Kind::Read);
+    reads.any(|k| gets(steps[k].tx) && is_forgotten(&steps[..k], steps[k].from))
+}
+
+fn is_forgotten(steps: &[Step], tx: usize) -> bool {
+    let so_far = SoFar::new(steps);
+    let committed = so_far
+        .number(tx)
+        .filter(|&one| so_far.log.is_committed(one));
+    committed.is_some_and(|one| !Room::new(&so_far).kept().contains(&one))
 }
 
 fn distinct(lines: impl Iterator<Item = String>) -> Vec<String> {
@@ -72,7 +151,7 @@ pub const TEXTS: [&str; 14] = [
     "refused=16 while something stands",
 ];
 
-pub const STREAMS: [&str; 16] = [
+pub const STREAMS: [&str; 29] = [
     "taken",
     "yes",
     "breach",
@@ -89,4 +168,17 @@ pub const STREAMS: [&str; 16] = [
     "breach, by one that never reads",
     "breach, by one that never writes",
     "cycle closed, by one that never writes",
+    "more than 128 begun",
+    "refused=18 with few open",
+    "refused=18 with some open",
+    "refused=18 with 128 open",
+    "a begin after refused=18",
+    "a begin after refused=18, and that again",
+    "a begin of one that got 18",
+    "yes to a reader of one forgotten",
+    "breach to a reader of one forgotten",
+    "breach after more than 128 begun",
+    "cycle closed after more than 128 begun",
+    "cycle closed, and missed by overlaps alone",
+    "cycle closed, and missed by edges alone",
 ];

@@ -4,20 +4,21 @@
 use super::draft::{Numbers, ABORT, BEGIN, COMMIT, READ, WRITE};
 use crate::rng::Rng;
 
-/// A bad step, with the transactions that are open and all that have begun.
-pub fn step(rng: &mut Rng, open: &[u16], begun: &[u16]) -> Numbers {
-    let mut step = aimed(rng, open, begun);
+/// A bad step, with the transactions that are open and all that have begun;
+/// surely none that makes a breach where the stream is calm.
+pub fn step(rng: &mut Rng, open: &[u16], begun: &[u16], calm: bool) -> Numbers {
+    let mut step = aimed(rng, open, begun, if calm { 7 } else { 8 });
     if rng.chance(1, 3) {
         spoil(rng, &mut step);
     }
     step
 }
 
-/// Each case aims at one number; the last two may be good.
-fn aimed(rng: &mut Rng, open: &[u16], begun: &[u16]) -> Numbers {
+/// Each case aims at one number; of eight the last two may be good.
+fn aimed(rng: &mut Rng, open: &[u16], begun: &[u16], cases: usize) -> Numbers {
     let someone = some(rng, open, 1);
     let highest = begun.last().copied().unwrap_or(0);
-    match rng.below(8) {
+    match rng.below(cases) {
         0 => [bad_kind(rng), someone, 0, 0],
         1 => [rng.pick(&[BEGIN, READ, WRITE, COMMIT, ABORT]), 0, 0, 0],
         2 => bad_object(rng, someone, highest),

@@ -27,6 +27,7 @@ fn agree(graph: &Graph) {
     let cycle = graph.first_cycle_by_trying();
     assert_eq!(cycle, graph.first_cycle_by_walking());
     assert_eq!(order.is_some(), cycle.is_none());
+    assert_eq!(graph.has_cycle(), cycle.is_some());
     let mut order = order;
     for _ in 0..20 {
         let Some(now) = order else { return };

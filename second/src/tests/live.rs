@@ -1,16 +1,16 @@
-//! The live judge: the settled points, the room, agreement with the report of
+//! The live judge: the settled points, the places, agreement with the report of
 //! the whole log, and what is watched line by line.
 
 use super::short::run;
 use crate::histogram::Table;
 use crate::live::{Live, Said, ROOM};
-use crate::make::{stream_of, Sort};
+use crate::make::Sort;
 use crate::report::report;
 use crate::watch::watch;
 use crate::write::text_of;
 
-/// The room, the steps, and the answer to each.
-const POINTS: [(usize, &str, &str); 12] = [
+/// The places, the steps, and the answer to each.
+const POINTS: [(usize, &str, &str); 21] = [
     (128, "b1 r1x1 w1x c1", "taken taken taken breach"),
     (128, "b1 w1x r1x1 c1", "taken taken taken yes"),
     (
@@ -20,7 +20,7 @@ const POINTS: [(usize, &str, &str); 12] = [
     ),
     (128, "b1 w1x r1x0 c1", "taken taken taken breach"),
     (128, "b1 r1x500 a1 b2 c2", "taken taken taken taken yes"),
-    (1, "b1 c1 b2 w2x c2", "taken yes 18 8 8"),
+    (1, "b1 b2 w2x c1 b2 c2", "taken 18 8 yes taken yes"),
     (128, "b5 b5 b4 c4 b6", "taken 7 7 8 taken"),
     (
         128,
@@ -28,7 +28,7 @@ const POINTS: [(usize, &str, &str); 12] = [
         "taken 5 taken taken",
     ),
     (1, "b1 b2:1 b1 b2", "taken 6 7 18"),
-    (2, "b1 a1 b2 a2 b3", "taken taken taken taken 18"),
+    (2, "b1 b2 b3 a1 b3 b4", "taken taken 18 taken taken 18"),
     (
         128,
         "b1 w1x b2 r2x1 c2 c1",
@@ -38,6 +38,35 @@ const POINTS: [(usize, &str, &str); 12] = [
         128,
         "b1 b2 r1y0 r2x0 w1x w2y c1 c2 c7 b0",
         "taken taken taken taken taken taken yes cycle_closed cycle_closed cycle_closed",
+    ),
+    (
+        3,
+        "b1 b2 w2x r1x0 c1 b3 c2 b4",
+        "taken taken taken taken yes taken yes taken",
+    ),
+    (
+        3,
+        "b1 b2 w2x r1x0 c1 b3 c2 b4 b5",
+        "taken taken taken taken yes taken yes taken 18",
+    ),
+    (2, "b1 b2 c2 b3", "taken taken yes 18"),
+    (2, "b1 b2 c2 c1 b3 b4", "taken taken yes yes taken taken"),
+    (2, "b1 b2 c2 a1 b3 b4", "taken taken yes taken taken taken"),
+    (128, "b5 c5 b5 w5x b4 b6", "taken yes 7 8 7 taken"),
+    (
+        1,
+        "b1 w1x c1 b2 r2x1 w2x c2 b3 r3x2 c3",
+        "taken taken yes taken taken taken yes taken taken yes",
+    ),
+    (
+        1,
+        "b1 w1x c1 b2 w2x c2 b3 r3x1 c3 b4",
+        "taken taken yes taken taken yes taken taken breach breach",
+    ),
+    (
+        3,
+        "b1 r1y0 b2 w2y c2 b3 r3y2 r3x0 w1x c1 b4 c3",
+        "taken taken taken taken yes taken taken taken taken yes 18 cycle_closed",
     ),
 ];
 
@@ -79,36 +108,24 @@ fn the_first_number_counts() {
     }
 }
 
+/// Any number may begin and abort, one after another; only 128 may be open.
 #[test]
-fn the_room() {
+fn the_places() {
     let mut judge = Live::new(ROOM);
-    for tx in 1..=128 {
-        assert_eq!(judge.take(&[1, 500 * tx, 0, 0]), Said::Taken);
-        assert_eq!(judge.take(&[5, 500 * tx, 0, 0]), Said::Taken);
+    for tx in 1..=300 {
+        assert_eq!(judge.take(&[1, tx, 0, 0]), Said::Taken);
+        assert_eq!(judge.take(&[5, tx, 0, 0]), Said::Taken);
+    }
+    for tx in 301..=428 {
+        assert_eq!(judge.take(&[1, tx, 0, 0]), Said::Taken);
     }
     assert_eq!(judge.take(&[1, 65_535, 0, 0]), Said::Refused(18));
     assert_eq!(judge.take(&[5, 65_535, 0, 0]), Said::Refused(8));
+    assert_eq!(judge.take(&[4, 301, 0, 0]), Said::Yes);
+    assert_eq!(judge.take(&[1, 65_535, 0, 0]), Said::Refused(18));
+    assert_eq!(judge.take(&[5, 302, 0, 0]), Said::Taken);
+    assert_eq!(judge.take(&[1, 65_535, 0, 0]), Said::Taken);
 }
-
-/// With room for all there is no 18, and the others get the same answers up to
-/// the first one that had no room.
-#[test]
-fn more_room() {
-    for index in (2..=400).step_by(8) {
-        let stream = stream_of(5, index);
-        let mut judge = Live::new(LARGE);
-        for (step, said) in &stream {
-            let larger = judge.take(step);
-            assert_ne!(larger, Said::Refused(18));
-            if *said == Said::Refused(18) {
-                break;
-            }
-            assert_eq!(larger, *said);
-        }
-    }
-}
-
-const LARGE: usize = 1000;
 
 /// Something stands at the end exactly where the report of the whole log says
 /// that it is no snapshot, or has a cycle; breach if only the former.

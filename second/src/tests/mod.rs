@@ -1,5 +1,5 @@
 //! Tests: the paper's samples, the settled points, brute force against the
-//! plain algorithms, the live judge, and what the made texts reach.
+//! plain algorithms, the live judge and its room, and what the made texts reach.
 
 mod agreement;
 mod damage;
@@ -9,6 +9,7 @@ mod live;
 mod made;
 mod points;
 mod reasons;
+mod room;
 mod samples;
 mod short;
 mod texts;

@@ -2,7 +2,7 @@
 use mathlib.Core.Path.{_≡_}
 use mathlib.Core.Bool.{true, false}
 use mathlib.Core.List.{List}
-use Prim.Native.Nat.{ℕ, _+_, _-_, _*_, _≤_, _<_}
+use Prim.Native.Nat.{ℕ, _+_, _-_, _*_, _<_}
 use lib.ListN.{length, set}
 use Rattle.words.specs.Tests.{_is_, if_then_else_}
 use Rattle.bits.specs.Word.{marked, more}
@@ -21,4 +21,4 @@ pub record NotesRead (rows marks : List ℕ) (p t x s : ℕ) (rows′ marks′ :
 pub record PutsLast (rows : List ℕ) (marks t : ℕ) (rows′ : List ℕ) : Type 0 where
   pub size : length rows′ ≡ length rows
   pub last : (x : ℕ) → x < 64 → sees-at rows′ 0 x ≡ (if marked marks x then t else sees-at rows 0 x)
-  pub others : (q c : ℕ) → 1 ≤ q → c < 67 → cell rows′ q c ≡ cell rows q c
+  pub others : (q c : ℕ) → (q ≡ 0 → c < 66 → ⊥) → c < 67 → cell rows′ q c ≡ cell rows q c

@@ -18,8 +18,8 @@ pub record TakesPart (l : Live) (b : Table) (part answers : List ℕ) (r : Live)
   pub sized : Sized b′
   pub room : r .count ≤ places
   pub size : length answers′ ≡ length answers
-  pub answered : (j : State) → Holds (l .standing) (l .top) (l .count) b j → answers′ ≡ map answer-number (all-says numbers (full places) j part)
-  pub holds : (j : State) → Holds (l .standing) (l .top) (l .count) b j → Holds (r .standing) (r .top) (r .count) b′ (after-all numbers (full places) j part)
+  pub answered : (j : State) → Holds (l .standing) (l .top) (l .count) b j → answers′ ≡ map answer-number (all-says numbers (full numbers places) j part)
+  pub holds : (j : State) → Holds (l .standing) (l .top) (l .count) b j → Holds (r .standing) (r .top) (r .count) b′ (after-all numbers (full numbers places) j part)
 
 -- n is the number that turns a call away; 0 where none does
 pub record CallNumber (b : Buffers) (part answers : List ℕ) (n : ℕ) : Type 0 where

@@ -1,6 +1,7 @@
 -- How the lent buffers keep the rows. A row has 67 numbers: the transaction's number, its status, for each object what it sees, and the
--- highest number that had begun when it committed. Row 0 has no transaction: it sees what one that begins now would see. The others are the
--- places 1 to 128.
+-- highest number that had begun when it committed. Row 0 has no transaction: it sees what one that begins now would see; of the highest
+-- numbers of those that committed none is below its own; and in place of a number it has the place of one who holds them, which only saves
+-- looking for it. The others are the places 1 to 128.
 use mathlib.Core.Path.{_≡_}
 use mathlib.Core.List.{List}
 use Prim.Native.Nat.{ℕ, _+_, _-_, _*_}

@@ -15,7 +15,7 @@ use Rattle.live.specs.Kept.{places, full}
 use Rattle.live.specs.declared.step.Live.{Live}
 use Rattle.live.specs.declared.step.Told.{Told}
 use Rattle.live.specs.Inner.Table.{Table, Sized, cell, status-at, sees-at, until-at, writes-at}
-use Rattle.live.specs.Inner.Held.{Held, Holds}
+use Rattle.live.specs.Inner.Held.{Tidy, Holds}
 use Rattle.live.specs.Inner.Around.{JoinsAround}
 
 -- the first of 3 to 6 that applies; 0 if none does
@@ -43,6 +43,7 @@ pub record Settles (b : Table) (before after : List ℕ) (p t top n : ℕ) (b′
   pub size : length (b′ .rows) ≡ length (b .rows)
   pub status : status-at (b′ .rows) p ≡ 2
   pub until : until-at (b′ .rows) p ≡ top
+  pub bar : (until-at (b′ .rows) 0 ≤ top) × (until-at (b′ .rows) 0 ≤ until-at (b .rows) 0)
   pub last : (x : ℕ) → x < objects → sees-at (b′ .rows) 0 x ≡ (if marked (writes-at (b .marks) p) x then t else sees-at (b .rows) 0 x)
   pub others : (q c : ℕ) → 1 ≤ q → c < 67 → (q ≡ p → c ≡ 1 → ⊥) → (q ≡ p → c ≡ 66 → ⊥) → cell (b′ .rows) q c ≡ cell (b .rows) q c
 
@@ -51,13 +52,13 @@ pub record Took (l : Live) (b : Table) (k t x s : ℕ) (r : Told) (b′ : Table)
   pub sized : Sized b′
   pub room : r .live .count ≤ places
   pub stood : r .live .standing ≡ (if stands (r .said) then answer-number (r .said) else l .standing)
-  pub answers : (log : List ℕ) → Held log (l .top) (l .count) b → r .said ≡ says numbers (full places) (going log) k t x s
-  pub goes-on : (log : List ℕ) → Held log (l .top) (l .count) b → stands (r .said) ≡ false
-      → (log′ : List ℕ) × (after numbers (full places) (going log) k t x s ≡ going log′) × Held log′ (r .live .top) (r .live .count) b′
+  pub answers : (log : List ℕ) → Tidy log (l .top) (l .count) b → r .said ≡ says numbers (full numbers places) (going log) k t x s
+  pub goes-on : (log : List ℕ) → Tidy log (l .top) (l .count) b → stands (r .said) ≡ false
+      → (log′ : List ℕ) × (after numbers (full numbers places) (going log) k t x s ≡ going log′) × Tidy log′ (r .live .top) (r .live .count) b′
 
 -- .. whatever the state holds
 pub record Takes (l : Live) (b : Table) (k t x s : ℕ) (r : Told) (b′ : Table) : Type 0 where
   pub sized : Sized b′
   pub room : r .live .count ≤ places
-  pub answers : (j : State) → Holds (l .standing) (l .top) (l .count) b j → r .said ≡ says numbers (full places) j k t x s
-  pub holds : (j : State) → Holds (l .standing) (l .top) (l .count) b j → Holds (r .live .standing) (r .live .top) (r .live .count) b′ (after numbers (full places) j k t x s)
+  pub answers : (j : State) → Holds (l .standing) (l .top) (l .count) b j → r .said ≡ says numbers (full numbers places) j k t x s
+  pub holds : (j : State) → Holds (l .standing) (l .top) (l .count) b j → Holds (r .live .standing) (r .live .top) (r .live .count) b′ (after numbers (full numbers places) j k t x s)

@@ -1,8 +1,9 @@
 -- `settle` meets its contract.
+use mathlib.Core.Path.{sym, _∙_}
 use native.Mathlib.Omega.{arith}
 use borrow.Author.Needs.{needs}
 use lib.ListN.{length-set}
-use Rattle.live.proofs.Notes.{settled}
+use Rattle.live.proofs.Notes.{lowered-size, settled}
 use Rattle.live.proofs.step.settle.Statement.{statement}
 use Rattle.live.proofs.step.settle.Tie as tie
 
@@ -46,6 +47,12 @@ slice-write-rows-2 c =
     let p = start put .pre in
     simp length-set (omega (arith, put .put-last .ensures .size, p .1, p .5))
 
+lower-bar-requires : tie.Need-lower-bar-requires
+lower-bar-requires c κs =
+    let put = c .before .before .before in
+    let p = start put .pre in
+    simp length-set (put .put-last .ensures .size ∙ p .1)
+
 sub-opened : tie.Need-sub-opened
 sub-opened c = search needs
 
@@ -59,16 +66,17 @@ same-length : tie.Need-same-length
 same-length c = search needs
 
 same-length-2 : tie.Need-same-length-2
-same-length-2 c = search needs
+same-length-2 c = let low = c .before .before in let put = low .before .before .before .before in let p = start put .pre in rw (low .lower-bar .ensures) (lowered-size _ _ (simp length-set (put .put-last .ensures .size ∙ p .1)) ∙ sym (p .1))
 
 same-length-3 : tie.Need-same-length-3
 same-length-3 c = search needs
 
 returns : tie.Need-returns
 returns c =
-    let put = c .before .before in
+    let low = c .before .before in
+    let put = low .before .before .before .before in
     let p = start put .pre in
-    settled (record { opened = p .0; rows = p .1; marks = p .2; edges = p .3 }) (p .4) (p .5) (put .before .writes .ensures) (put .before .before .before .before .before .join-around .ensures) (put .put-last .ensures)
+    settled (record { opened = p .0; rows = p .1; marks = p .2; edges = p .3 }) (p .4) (p .5) (put .before .writes .ensures) (put .before .before .before .before .before .join-around .ensures) (put .put-last .ensures) (low .lower-bar .ensures)
 
 pub settle-spec : {M : Type 1} → statement M
 settle-spec =
@@ -85,6 +93,7 @@ settle-spec =
     add-rows-2
     mul-rows-4
     slice-write-rows-2
+    lower-bar-requires
     sub-opened
     mul-opened
     slice-write-opened

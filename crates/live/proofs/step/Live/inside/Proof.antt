@@ -1,9 +1,9 @@
 -- `inside` meets its contract.
 use mathlib.Core.Logic.{inl, inr}
 use native.Mathlib.Omega.{arith}
-use borrow.Author.Needs.{needs}
 use Rattle.live.proofs.Numbers.{range-kind, range-object, only-commit}
-use Rattle.live.proofs.TookInside.{inside-read, inside-write, inside-abort}
+use Rattle.live.proofs.TookInside.{inside-read, inside-write}
+use borrow.Author.Needs.{needs}
 use Rattle.live.proofs.step.Live.inside.Statement.{statement}
 use Rattle.live.proofs.step.Live.inside.Tie as tie
 
@@ -46,25 +46,11 @@ returns-2 c =
     let p = start (test .before .before) .pre in
     inside-write (p .0) (p .1) (p .2) (p .3) (p .4) (p .5) (p .6) (test .if2 .taken) (noted .note-write .ensures)
 
-sub-opened : tie.Need-sub-opened
-sub-opened c = search needs
-
-mul-opened : tie.Need-mul-opened
-mul-opened c = search needs
-
-slice-write-opened : tie.Need-slice-write-opened
-slice-write-opened c = search needs
+abort-requires : tie.Need-abort-requires
+abort-requires c κs = search needs
 
 same-length-4 : tie.Need-same-length-4
 same-length-4 c = search needs
-
-returns-3 : tie.Need-returns-3
-returns-3 c =
-    let p = start (c .before .before .before) .pre in
-    inside-abort (p .0) (p .1) (p .2) (p .3) (p .4) (p .5) (p .6) (c .if3 .taken)
-
-commit-requires : tie.Need-commit-requires
-commit-requires c κs = search needs
 
 same-length-5 : tie.Need-same-length-5
 same-length-5 c = search needs
@@ -72,11 +58,27 @@ same-length-5 c = search needs
 same-length-6 : tie.Need-same-length-6
 same-length-6 c = search needs
 
+returns-3 : tie.Need-returns-3
+returns-3 c =
+    let done = c .before .before .before .before .before .before in
+    let test = done .before .before .before .before in
+    let p = start (test .before .before .before) .pre in
+    done .abort .ensures _ _ _ _ _ (p .0 .marks) (p .1) (p .4) (test .if3 .taken) (p .5)
+
+commit-requires : tie.Need-commit-requires
+commit-requires c κs = search needs
+
 same-length-7 : tie.Need-same-length-7
 same-length-7 c = search needs
 
 same-length-8 : tie.Need-same-length-8
 same-length-8 c = search needs
+
+same-length-9 : tie.Need-same-length-9
+same-length-9 c = search needs
+
+same-length-10 : tie.Need-same-length-10
+same-length-10 c = search needs
 
 returns-4 : tie.Need-returns-4
 returns-4 c =
@@ -96,14 +98,14 @@ inside-spec =
     note-write-requires
     same-length-3
     returns-2
-    sub-opened
-    mul-opened
-    slice-write-opened
+    abort-requires
     same-length-4
-    returns-3
-    commit-requires
     same-length-5
     same-length-6
+    returns-3
+    commit-requires
     same-length-7
     same-length-8
+    same-length-9
+    same-length-10
     returns-4)

@@ -2,6 +2,7 @@
 use mathlib.Core.Path.{_≡_, sym, _∙_}
 use native.Mathlib.Omega.{arith}
 use borrow.Author.Needs.{needs}
+use Rattle.live.specs.SoFar.{numbers}
 use Rattle.live.specs.Kept.{places, full}
 use Rattle.live.specs.Inner.Took.{range-number}
 use Rattle.live.proofs.Numbers.{number-range, number-eight, range-low}
@@ -35,7 +36,7 @@ returns-3 : tie.Need-returns-3
 returns-3 c =
     let range = c .before in
     let p = begun range .pre in
-    takes-took (range .before .before .before .if1 .left) (range .before .if2 .left) (took-refused _ (c .if3 .taken) (p .0) (p .1) (λ log h. number-range (full places) log _ _ _ _ (range .range-number .ensures) (c .if3 .taken)))
+    takes-took (range .before .before .before .if1 .left) (range .before .if2 .left) (took-refused _ (c .if3 .taken) (p .0) (p .1) (λ log h. number-range (full numbers places) log _ _ _ _ (range .range-number .ensures) (c .if3 .taken)))
 
 begin-requires : tie.Need-begin-requires
 begin-requires c κs =
@@ -74,7 +75,7 @@ returns-5 c =
     let range = test .before .before in
     let p = begun range .pre in
     takes-took (range .before .before .before .if1 .left) (range .before .if2 .left)
-    (took-refused 8 (λ z. omega arith) (p .0) (p .1) (λ log h. number-eight (full places) log _ _ _ _ (in-range (test .before)) (test .if4 .left) (not-open h _ (found .place-of .ensures .nowhere (c .if5 .taken)))))
+    (took-refused 8 (λ z. omega arith) (p .0) (p .1) (λ log y. number-eight (full numbers places) log _ _ _ _ (in-range (test .before)) (test .if4 .left) (not-open (y .held) (y .keeping) _ (found .place-of .ensures .nowhere (c .if5 .taken)))))
 
 inside-requires : tie.Need-inside-requires
 inside-requires c κs =
