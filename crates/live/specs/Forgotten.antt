@@ -26,7 +26,7 @@ module _ (most : ℕ) (log : List ℕ) where
   left zero t = committed log t
   left (suc k) t = left k t and fails (may-go (left k) t)
 
-  -- .. and those kept when nothing more can go: each round before that forgets one at least
+  -- .. and those kept when nothing more can go: as many rounds as there are numbers are enough, since each before that forgets one at least
   unfoldable pub kept : ℕ → Bool
   kept t = left (suc most) t
 

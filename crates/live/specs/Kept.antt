@@ -6,7 +6,7 @@ use Rattle.words.specs.Tests.{_upto_, _or_, count}
 use Rattle.live.specs.SoFar.{is-open}
 use Rattle.live.specs.Forgotten.{kept}
 
--- how many transactions are kept at a time
+-- how many places there are
 abbrev pub places : ℕ
 places = 128
 

@@ -75,7 +75,7 @@ pub record Watched (rows : List ℕ) (n : ℕ) (rows′ : List ℕ) : Type 0 whe
   pub others : (q c : ℕ) → c < 67 → (q ≡ 0 → c ≡ 0 → ⊥) → (q ≡ 0 → c ≡ 66 → ⊥) → cell rows′ q c ≡ cell rows q c
   pub low : LowUntil rows n (until-at rows′ 0)
 
--- the places from r on, of the first n, are free
+-- the places behind r, of the first n, are free
 pub record LastUsed (rows : List ℕ) (n r : ℕ) : Type 0 where
   pub bound : r ≤ n
   pub free : (q : ℕ) → r < q → q ≤ n → name-at rows q ≡ 0

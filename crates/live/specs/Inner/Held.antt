@@ -55,7 +55,7 @@ pub record Held (log : List ℕ) (top count : ℕ) (b : Table) : Type 0 where
   -- the edges between places are those between their transactions
   pub edges : (p q : ℕ) → Place places p → Place places q → in-row (b .edges) q p ≡ chain-edge log (name-at (b .rows) p) (name-at (b .rows) q)
 
--- the open transactions have places, and so have those of the committed ones that are kept; the others were forgotten, one after another
+-- the open transactions have places, and so have those of the committed ones that are kept, and no other; the others that committed were forgotten, one after another
 pub record Keeping (log : List ℕ) (b : Table) (keeps : ℕ → Bool) : Type 0 where
   pub forgot : Forgets numbers log keeps
   pub placed : (t : ℕ) → (is-open log t or keeps t) ≡ true → (p : ℕ) × Place places p × (name-at (b .rows) p ≡ t)
