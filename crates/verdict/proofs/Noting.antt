@@ -82,58 +82,42 @@ turned-away log i n = record { says = no-such-kind log i n; noted = λ e. absurd
     three : _≡_ {A = ℕ} 3 0 → ⊥
     three z = omega arith
 
+-- nobody commits at a step of another kind
+pub none-commits : (log : List ℕ) (i : ℕ) {c p o : List ℕ} → (kind log i ≡ 4 → ⊥) → InOrder log i c p o → InOrder log (i + 1) c p o
+unfolding does
+none-commits log i k before = record {
+  at-step = steps-skip log 4 i (before .at-step) k;
+  who = λ t. before .who t ∙ sym (some-skip i (does log 4 t) (and-no-left _ (→isnt k)));
+  after = order-skip log i (before .after) k;
+}
+
 -- WHAT IS NOTED BEHIND A STEP, by its kind
 module _ (log : List ℕ) (i : ℕ) {l b c p o w : List ℕ} (noted : Noted log i l b c p o w) where
-  -- nobody commits there
-  none-commits : (kind log i ≡ 4 → ⊥) → InOrder log (i + 1) c p o
-  unfolding does
-  none-commits k = record {
-    at-step = steps-skip log 4 i (noted .has-committed .at-step) k;
-    who = λ t. noted .has-committed .who t ∙ sym (some-skip i (does log 4 t) (and-no-left _ (→isnt k)));
-    after = order-skip log i (noted .has-committed .after) k;
-  }
-
   pub behind-begin : {m d : List ℕ} → kind log i ≡ 1 → Lived log (i + 1) m → StepsBefore log 1 (i + 1) d → Noted log (i + 1) m d c p o w
   behind-begin k lived begun = record {
     has-lived = lived;
     has-begun = begun;
-    has-committed = none-commits (λ (q : kind log i ≡ 4). omega arith);
+    has-committed = none-commits log i (λ (q : kind log i ≡ 4). omega arith) (noted .has-committed);
     has-written = write-skip log i (noted .has-written) (λ (q : kind log i ≡ 3). omega arith);
     writes-size = noted .writes-size;
   }
 
-  -- a read or a write, by the versions behind it
-  behind-touch : {v : List ℕ} → (kind log i ≡ 1 → ⊥) → (kind log i ≡ 4 → ⊥) → (kind log i ≡ 5 → ⊥) → Versions log (i + 1) v → length v ≡ suc transactions → Noted log (i + 1) l b c p o v
-  behind-touch begin commit abort versions size = record {
-    has-lived = lived-on log i (noted .has-lived) begin commit abort;
-    has-begun = steps-skip log 1 i (noted .has-begun) begin;
-    has-committed = none-commits commit;
+  -- a read or a write
+  pub behind-touch : {v : List ℕ} → 2 ≤ kind log i → kind log i ≤ 3 → Versions log (i + 1) v → length v ≡ suc transactions → Noted log (i + 1) l b c p o v
+  behind-touch least most versions size = record {
+    has-lived = lived-on log i (noted .has-lived) (λ (q : kind log i ≡ 1). omega arith) (λ (q : kind log i ≡ 4). omega arith) (λ (q : kind log i ≡ 5). omega arith);
+    has-begun = steps-skip log 1 i (noted .has-begun) (λ (q : kind log i ≡ 1). omega arith);
+    has-committed = none-commits log i (λ (q : kind log i ≡ 4). omega arith) (noted .has-committed);
     has-written = versions;
     writes-size = size;
   }
 
-  pub behind-read : kind log i ≡ 2 → Noted log (i + 1) l b c p o w
-  behind-read k =
-      behind-touch (λ (q : kind log i ≡ 1). omega arith) (λ (q : kind log i ≡ 4). omega arith) (λ (q : kind log i ≡ 5). omega arith)
-      (write-skip log i (noted .has-written) (λ (q : kind log i ≡ 3). omega arith)) (noted .writes-size)
-
-  pub behind-write : {v : List ℕ} → kind log i ≡ 3 → Versions log (i + 1) v → length v ≡ suc transactions → Noted log (i + 1) l b c p o v
-  behind-write k = behind-touch (λ (q : kind log i ≡ 1). omega arith) (λ (q : kind log i ≡ 4). omega arith) (λ (q : kind log i ≡ 5). omega arith)
-
-  pub behind-commit : {m d q e : List ℕ} → kind log i ≡ 4 → Lived log (i + 1) m → InOrder log (i + 1) d q e → Noted log (i + 1) m b d q e w
-  behind-commit k lived order = record {
+  -- a commit or an abort
+  pub behind-last : {m d q e : List ℕ} → 4 ≤ kind log i → Lived log (i + 1) m → InOrder log (i + 1) d q e → Noted log (i + 1) m b d q e w
+  behind-last least lived order = record {
     has-lived = lived;
     has-begun = steps-skip log 1 i (noted .has-begun) (λ (q : kind log i ≡ 1). omega arith);
     has-committed = order;
-    has-written = write-skip log i (noted .has-written) (λ (q : kind log i ≡ 3). omega arith);
-    writes-size = noted .writes-size;
-  }
-
-  pub behind-abort : {m : List ℕ} → kind log i ≡ 5 → Lived log (i + 1) m → Noted log (i + 1) m b c p o w
-  behind-abort k lived = record {
-    has-lived = lived;
-    has-begun = steps-skip log 1 i (noted .has-begun) (λ (q : kind log i ≡ 1). omega arith);
-    has-committed = none-commits (λ (q : kind log i ≡ 4). omega arith);
     has-written = write-skip log i (noted .has-written) (λ (q : kind log i ≡ 3). omega arith);
     writes-size = noted .writes-size;
   }

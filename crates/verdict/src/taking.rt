@@ -1,4 +1,4 @@
-// Taking one step of a log: the number that turns it away, or what is noted of it. The kind is looked at once, and each has a way of its own.
+// Taking one step of a log: the number that turns it away, or what is noted of it. Each kind has a way of its own, and is told by comparisons alone.
 use crate::limits::MadeObject;
 use crate::limits::MadeTransaction;
 use crate::limits::Object;
@@ -168,6 +168,27 @@ fn take_write(
     0
 }
 
+// A read or a write.
+fn take_touch(
+    log: &[u16],
+    i: usize,
+    lives: &[u8; Transaction::TABLE],
+    versions: &mut [u64; Transaction::TABLE],
+) -> Taken
+    requires { ⌜ (i < steps (now log)) × (2 ≤ kind (now log) i) × (kind (now log) i ≤ 3) × Lived (now log) i (now lives) × Versions (now log) i (now versions) × (length (now versions) ≡ suc transactions) ⌝ }
+    ensures { λ r. ⌜ (numbered (r .number) i ≡ step-refusal (now (log .entry)) i)
+        × (r .number ≡ 0 → Versions (now (log .entry)) (i + 1) (now (versions .exit)) × (length (now (versions .exit)) ≡ suc transactions) × (r .missed ≡ misses (now (log .entry)) i)) ⌝ }
+{
+    let step = step_at(log, i);
+    if step.kind == Step::READ {
+        return take_read(log, i, lives, versions);
+    }
+    Taken {
+        number: take_write(log, i, lives, versions),
+        missed: false,
+    }
+}
+
 // An end, by commit or abort.
 fn take_end(log: &[u16], i: usize, lives: &mut [u8; Transaction::TABLE]) -> u16
     requires { ⌜ (i < steps (now log)) × ((kind (now log) i ≡ 4) ⊎ (kind (now log) i ≡ 5)) × Lived (now log) i (now lives) ⌝ }
@@ -215,7 +236,28 @@ fn take_commit(
     0
 }
 
-// Step i, by what is noted of the steps before it.
+// A commit or an abort: the last step of its transaction.
+fn take_last(
+    log: &[u16],
+    i: usize,
+    lives: &mut [u8; Transaction::TABLE],
+    commits: &mut [u16; Transaction::TABLE],
+    part: &mut [u64; graph::WORDS],
+    earlier: &mut [u16; Transaction::TABLE],
+) -> u16
+    requires { ⌜ (i < steps (now log)) × (steps (now log) ≤ most-steps) × (4 ≤ kind (now log) i) × (kind (now log) i ≤ 5) × Lived (now log) i (now lives) × InOrder (now log) i (now commits) (now part) (now earlier) ⌝ }
+    ensures { λ r. ⌜ (numbered r i ≡ step-refusal (now (log .entry)) i)
+        × (r ≡ 0 → Lived (now (log .entry)) (i + 1) (now (lives .exit)) × InOrder (now (log .entry)) (i + 1) (now (commits .exit)) (now (part .exit)) (now (earlier .exit))) ⌝ }
+{
+    let step = step_at(log, i);
+    if step.kind == Step::COMMIT {
+        return take_commit(log, i, lives, commits, part, earlier);
+    }
+    take_end(log, i, lives)
+}
+
+// Step i, by what is noted of the steps before it. Two arms take two kinds each: with an arm for each kind the match becomes one jump through a table, which a
+// processor guesses worse than comparisons where kinds follow no rule.
 pub(crate) fn take_step(
     log: &[u16],
     i: usize,
@@ -236,17 +278,9 @@ pub(crate) fn take_step(
             number: take_begin(log, i, lives, begins),
             missed: false,
         },
-        Step::READ => take_read(log, i, lives, versions),
-        Step::WRITE => Taken {
-            number: take_write(log, i, lives, versions),
-            missed: false,
-        },
-        Step::COMMIT => Taken {
-            number: take_commit(log, i, lives, commits, part, earlier),
-            missed: false,
-        },
-        Step::ABORT => Taken {
-            number: take_end(log, i, lives),
+        Step::READ | Step::WRITE => take_touch(log, i, lives, versions),
+        Step::COMMIT | Step::ABORT => Taken {
+            number: take_last(log, i, lives, commits, part, earlier),
             missed: false,
         },
         _ => Taken {
