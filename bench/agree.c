@@ -47,6 +47,39 @@ static unsigned differ_on_listing(const char *where, const struct log *l)
     return bad;
 }
 
+static unsigned differ_on_proposal(const char *where, const struct log *l, const uint16_t *proposal)
+{
+    memset(&by_ours, 0xa5, sizeof by_ours);
+    memcpy(by_ours.proposal, proposal, sizeof by_ours.proposal);
+    by_peer = by_ours;
+    uint64_t our_answer = judge_accepts(&ours, l, by_ours.proposal, &by_ours);
+    uint64_t peer_answer = judge_accepts(&peer, l, by_peer.proposal, &by_peer);
+    return differ(where, "accepts", our_answer, peer_answer);
+}
+
+/* The proposal that both make is judged, and the same with a member left out, and with one named twice. */
+static unsigned differ_on_plan(const char *where, const struct log *l)
+{
+    uint16_t proposal[KRUPOVESH_PROPOSAL];
+
+    memset(&by_ours, 0xa5, sizeof by_ours);
+    memset(&by_peer, 0xa5, sizeof by_peer);
+    uint64_t our_answer = judge_redo(&ours, l, &by_ours);
+    uint64_t peer_answer = judge_redo(&peer, l, &by_peer);
+    unsigned bad = differ(where, "redo", our_answer, peer_answer), count = KRUPOVESH_FIRST(peer_answer);
+    memcpy(proposal, by_peer.proposal, sizeof proposal);
+    bad += differ_on_proposal(where, l, proposal);
+    if (count != 0) {
+        proposal[count - 1] = 0;
+        bad += differ_on_proposal(where, l, proposal);
+    }
+    if (count > 1) {
+        proposal[count - 1] = proposal[0];
+        bad += differ_on_proposal(where, l, proposal);
+    }
+    return bad;
+}
+
 /* What each keeps in the state is its own; the answers have to be the same, and each step is good. */
 static unsigned differ_on_stream(const struct stream *s, size_t at_once)
 {
@@ -75,6 +108,13 @@ unsigned disagreements(struct workload *room, struct stream *stream)
         make_listing(i, room);
         bad += differ_on_log(room->name, room->logs);
         bad += differ_on_listing(room->name, room->logs);
+    }
+    for (unsigned i = 0; i < plan_count; i++) {
+        make_plan(i, room);
+        for (unsigned k = 0; k < room->count; k++) {
+            bad += differ_on_log(room->name, &room->logs[k]);
+            bad += differ_on_plan(room->name, &room->logs[k]);
+        }
     }
     for (unsigned i = 0; i < stream_count; i++) {
         make_stream(i, stream);

@@ -1,5 +1,5 @@
-/* Prints, for each verdict and each workload, and for the live judge on each stream, what ours costs as a multiple of the peer, and what
- * each costs. */
+/* Prints, for each verdict and each workload, for the commits to redo, and for the live judge on each stream, what ours costs as a
+ * multiple of the peer, and what each costs. */
 #define _POSIX_C_SOURCE 199309L
 #include <stdio.h>
 #include <stdlib.h>
@@ -13,11 +13,13 @@ static const double shortest = 0.05; /* seconds that a side is run in a round */
 
 static struct workload room;
 static struct buffers lent;
+static uint16_t proposals[MOST_LOGS][KRUPOVESH_PROPOSAL]; /* one for each log of the room, where commits are to redo */
 static struct stream stream;
 static struct live_buffers live;
 
-/* What is run many times: a verdict on each log of a workload, a listing, or a stream with so many steps a call. */
-enum sort { VERDICT, LISTING, STREAM };
+/* What is run many times: a verdict on each log of a workload, a listing, a proposal for each log or the judging of it, or a stream
+ * with so many steps a call. */
+enum sort { VERDICT, LISTING, REDO, ACCEPTS, STREAM };
 struct task {
     enum sort sort;
     unsigned verdict;
@@ -45,10 +47,13 @@ static void run_once(const struct judge *j, const struct task *t)
         return;
     }
     for (unsigned k = 0; k < room.count; k++) {
-        if (t->sort == LISTING)
-            judge_listing(j, &room.logs[k], &lent);
-        else
-            judge_log(j, t->verdict, &room.logs[k], &lent);
+        const struct log *l = &room.logs[k];
+        switch (t->sort) {
+        case LISTING: judge_listing(j, l, &lent); break;
+        case REDO: judge_redo(j, l, &lent); break;
+        case ACCEPTS: judge_accepts(j, l, proposals[k], &lent); break;
+        default: judge_log(j, t->verdict, l, &lent); break;
+        }
     }
 }
 
@@ -157,6 +162,35 @@ static void print_listings(void)
     }
 }
 
+/* Makes a row's logs and a proposal for each of them; how many members a proposal has, on the average. */
+static double make_proposals(unsigned index)
+{
+    unsigned members = 0;
+    make_plan(index, &room);
+    for (unsigned k = 0; k < room.count; k++) {
+        members += KRUPOVESH_FIRST(judge_redo(&peer, &room.logs[k], &lent));
+        memcpy(proposals[k], lent.proposal, sizeof proposals[k]);
+    }
+    return (double)members / room.count;
+}
+
+static void print_plans(void)
+{
+    printf("\nWhich commits to redo, in microseconds a log; making a proposal, and judging that one:\n\n");
+    printf("| log | members | redo: ours / peer | peer | ours | accepts: ours / peer | peer | ours |\n");
+    printf("|---|---:|---:|---:|---:|---:|---:|---:|\n");
+    for (unsigned i = 0; i < plan_count; i++) {
+        double members = make_proposals(i);
+        printf("| %s | %.3g |", room.name, members);
+        for (enum sort s = REDO; s <= ACCEPTS; s++) {
+            struct cost c = measure(&(struct task){s, 0, 0});
+            for (unsigned f = 0; f < FIGURES; f++)
+                print_figure(c.figure[f]);
+        }
+        printf("\n");
+    }
+}
+
 /* Whole streams in one call, and one step a call. */
 static void print_streams(void)
 {
@@ -176,7 +210,7 @@ static void print_streams(void)
     }
 }
 
-/* Makes the row of a table, by the word of a verdict, `next`, `live` or `step`; false where there is none. */
+/* Makes the row of a table, by the word of a verdict, `next`, `redo`, `accepts`, `live` or `step`; false where there is none. */
 static int make_row(const char *word, unsigned row, struct task *t)
 {
     if (strcmp(word, "live") == 0 || strcmp(word, "step") == 0) {
@@ -192,6 +226,12 @@ static int make_row(const char *word, unsigned row, struct task *t)
             make_listing(row, &room);
         return row < listing_count;
     }
+    if (strcmp(word, "redo") == 0 || strcmp(word, "accepts") == 0) {
+        *t = (struct task){word[0] == 'r' ? REDO : ACCEPTS, 0, 0};
+        if (row < plan_count)
+            make_proposals(row);
+        return row < plan_count;
+    }
     for (t->verdict = 0; t->verdict < VERDICTS && strcmp(word, verdict_names[t->verdict]) != 0; t->verdict++)
         ;
     if (t->verdict == VERDICTS || row >= workload_count)
@@ -205,7 +245,7 @@ static int profile(const char *word, unsigned row)
 {
     struct task t = {VERDICT, 0, 0};
     if (!make_row(word, row, &t)) {
-        fprintf(stderr, "bench [VERDICT|next|live|step ROW]\n");
+        fprintf(stderr, "bench [VERDICT|next|redo|accepts|live|step ROW]\n");
         return 2;
     }
     run_once(&ours, &t);
@@ -223,6 +263,7 @@ int main(int count, char **words)
     }
     print_verdicts();
     print_listings();
+    print_plans();
     print_streams();
     return 0;
 }

@@ -17,12 +17,16 @@ struct judge {
     uint64_t (*report)(const uint8_t *, size_t, uint8_t *, size_t);
     uint64_t (*live)(uint16_t *, size_t, uint16_t *, size_t, uint16_t *, size_t, uint64_t *, size_t, uint64_t *, size_t,
                      const uint16_t *, size_t, uint16_t *, size_t);
+    uint64_t (*accepts)(const uint16_t *, size_t, const uint16_t *, size_t, uint8_t *, size_t);
+    with_witness *redo; /* the proposal stands where the others have a witness */
 };
 
-const struct judge ours = {krupovesh_clean, krupovesh_snapshot, krupovesh_conflict, krupovesh_version, krupovesh_exact,
-                           krupovesh_next,  krupovesh_read,     krupovesh_write,    krupovesh_report,  krupovesh_live};
-const struct judge peer = {peer_clean, peer_snapshot, peer_conflict, peer_version, peer_exact,
-                           peer_next,  peer_read,     peer_write,    peer_report,  peer_live};
+const struct judge ours = {krupovesh_clean,  krupovesh_snapshot, krupovesh_conflict, krupovesh_version,
+                           krupovesh_exact,  krupovesh_next,     krupovesh_read,     krupovesh_write,
+                           krupovesh_report, krupovesh_live,     krupovesh_accepts,  krupovesh_redo};
+const struct judge peer = {peer_clean,  peer_snapshot, peer_conflict, peer_version,
+                           peer_exact,  peer_next,     peer_read,     peer_write,
+                           peer_report, peer_live,     peer_accepts,  peer_redo};
 
 const char *const verdict_names[VERDICTS] = {"clean", "snapshot", "conflict", "version", "exact", "read", "write", "report"};
 
@@ -63,6 +67,16 @@ unsigned judge_listing(const struct judge *j, const struct log *l, struct buffer
         result = judge_next(j, l, b);
     }
     return orders;
+}
+
+uint64_t judge_redo(const struct judge *j, const struct log *l, struct buffers *b)
+{
+    return j->redo(l->numbers, l->length, b->work, KRUPOVESH_WORK, b->proposal, KRUPOVESH_PROPOSAL);
+}
+
+uint64_t judge_accepts(const struct judge *j, const struct log *l, const uint16_t *proposal, struct buffers *b)
+{
+    return j->accepts(l->numbers, l->length, proposal, KRUPOVESH_PROPOSAL, b->work, KRUPOVESH_WORK);
 }
 
 uint64_t judge_stream(const struct judge *j, const struct stream *s, size_t at_once, struct live_buffers *b)

@@ -18,6 +18,7 @@ struct buffers {
     uint8_t work[KRUPOVESH_WORK];
     uint16_t witness[KRUPOVESH_WITNESS];
     uint16_t order[KRUPOVESH_HANDED];
+    uint16_t proposal[KRUPOVESH_PROPOSAL];
     uint16_t steps[KRUPOVESH_STEPS];
     uint8_t out[KRUPOVESH_REPORT];
     uint8_t written[KRUPOVESH_TEXT];
@@ -34,6 +35,12 @@ uint64_t judge_next(const struct judge *j, const struct log *l, struct buffers *
 
 /* The version verdict's order and all that follow; how many there are. */
 unsigned judge_listing(const struct judge *j, const struct log *l, struct buffers *b);
+
+/* Makes a proposal of the commits to redo, into b->proposal. */
+uint64_t judge_redo(const struct judge *j, const struct log *l, struct buffers *b);
+
+/* Judges a proposal. */
+uint64_t judge_accepts(const struct judge *j, const struct log *l, const uint16_t *proposal, struct buffers *b);
 
 /* What is lent to the live judge. */
 struct live_buffers {

@@ -31,4 +31,10 @@ uint64_t peer_live(uint16_t *state, size_t state_length, uint16_t *opened, size_
                    uint64_t *marks, size_t marks_length, uint64_t *edges, size_t edges_length,
                    const uint16_t *part, size_t part_length, uint16_t *answers, size_t answers_length);
 
+uint64_t peer_accepts(const uint16_t *log, size_t log_length, const uint16_t *proposal, size_t proposal_length,
+                      uint8_t *work, size_t work_length);
+
+uint64_t peer_redo(const uint16_t *log, size_t log_length, uint8_t *work, size_t work_length,
+                   uint16_t *proposal, size_t proposal_length);
+
 #endif

@@ -101,54 +101,65 @@ static unsigned below(uint64_t *seed, unsigned bound)
     return (unsigned)((*seed >> 33) % bound);
 }
 
+/* What a random log is drawn by: how many objects there are, the version of each that a read finds, and whether this is the last one
+ * that was written, or the last one committed and the reader's own. */
+struct draw {
+    uint64_t seed;
+    unsigned objects;
+    int dirty;
+    unsigned last[64];
+};
+
 /* An open transaction of a random log. */
 struct open {
     unsigned tx, done;
     uint64_t wrote;
 };
 
-/* One more step of a transaction: six reads and writes, then its end. A read finds the last committed version. True at the end. */
-static int go_on(struct log *l, uint64_t *seed, struct open *o, unsigned *last)
+/* One more step of a transaction: six reads and writes, then its end. True at the end. */
+static int go_on(struct log *l, struct draw *d, struct open *o)
 {
-    unsigned x = below(seed, 64);
+    unsigned x = below(&d->seed, d->objects);
     uint64_t own = o->wrote >> x & 1;
 
     if (o->done++ == 6) {
-        int commits = below(seed, 16) != 0;
+        int commits = below(&d->seed, 16) != 0;
         add(l, commits ? COMMIT : ABORT, o->tx, 0, 0);
         for (x = 0; x < 64; x++)
-            if (commits && o->wrote >> x & 1)
-                last[x] = o->tx;
+            if (commits && !d->dirty && o->wrote >> x & 1)
+                d->last[x] = o->tx;
         return 1;
     }
-    if (below(seed, 2) == 0) {
-        add(l, READ, o->tx, x, own ? o->tx : last[x]);
+    if (below(&d->seed, 2) == 0) {
+        add(l, READ, o->tx, x, own && !d->dirty ? o->tx : d->last[x]);
     } else {
         add(l, WRITE, o->tx, x, 0);
         o->wrote |= UINT64_C(1) << x;
+        if (d->dirty)
+            d->last[x] = o->tx;
     }
     return 0;
 }
 
 /* Eight steps a transaction, up to six transactions open, numbered as they come by a shuffle. */
-static void random_log(struct log *l, unsigned steps, uint64_t seed)
+static void random_log(struct log *l, unsigned steps, struct draw d)
 {
-    unsigned number[128], last[64] = {0}, count = steps / 8, begun = 0, at_once = 0;
+    unsigned number[128], count = steps / 8, begun = 0, at_once = 0;
     struct open open[6];
 
     for (unsigned i = 0; i < count; i++) {
-        unsigned j = below(&seed, i + 1);
+        unsigned j = below(&d.seed, i + 1);
         number[i] = number[j];
         number[j] = i + 1;
     }
     while (l->length < 4 * (size_t)steps) {
-        if (begun < count && at_once < 6 && (at_once == 0 || below(&seed, 4) == 0)) {
+        if (begun < count && at_once < 6 && (at_once == 0 || below(&d.seed, 4) == 0)) {
             open[at_once++] = (struct open){number[begun], 0, 0};
             add(l, BEGIN, number[begun++], 0, 0);
             continue;
         }
-        unsigned i = below(&seed, at_once);
-        if (go_on(l, &seed, &open[i], last))
+        unsigned i = below(&d.seed, at_once);
+        if (go_on(l, &d, &open[i]))
             open[i] = open[--at_once];
     }
 }
@@ -187,6 +198,92 @@ static void chain_and_one(struct log *l)
     add(l, COMMIT, 1, 0, 0);
 }
 
+/* Each reads the store's version of three objects and writes them, all at once: one of them may stay. */
+static void lost_updates(struct log *l)
+{
+    add_all(l, BEGIN, 128);
+    for (unsigned x = 0; x < 3; x++)
+        for (unsigned t = 1; t <= 128; t++)
+            add(l, READ, t, x, 0);
+    for (unsigned x = 0; x < 3; x++)
+        for (unsigned t = 1; t <= 128; t++)
+            add(l, WRITE, t, x, 0);
+    add_all(l, COMMIT, 128);
+}
+
+/* Pairs, one after the other: each of a pair reads what the other writes. Two pairs have the same objects; the later one finds what the
+ * odd one of the earlier pair wrote, and the store's version where the even one did, so that nobody has read from an even one. */
+static void write_skews(struct log *l)
+{
+    for (unsigned t = 1; t <= 127; t += 2) {
+        unsigned by_even = (t - 1) % 64, by_odd = by_even + 1;
+        add(l, BEGIN, t, 0, 0);
+        add(l, BEGIN, t + 1, 0, 0);
+        add(l, READ, t, by_even, 0);
+        add(l, READ, t + 1, by_odd, t < 64 ? 0 : t - 64);
+        add_writes(l, t, by_odd, 4);
+        add_writes(l, t + 1, by_even, 4);
+        add(l, COMMIT, t, 0, 0);
+        add(l, COMMIT, t + 1, 0, 0);
+    }
+}
+
+/* Has read from each of a chain that goes from `first` down to `last` and begins with object 1, and writes object 62. */
+static void add_hub(struct log *l, unsigned tx, unsigned first, unsigned last, unsigned reads)
+{
+    add(l, BEGIN, tx, 0, 0);
+    for (unsigned i = 0; i < reads; i++) {
+        unsigned further = i % (first - last + 1);
+        add(l, READ, tx, 1 + further, first - further);
+    }
+    add(l, WRITE, tx, 62, 0);
+    add(l, COMMIT, tx, 0, 0);
+}
+
+/* Each of these has read from the last of such a chain, and the store's version of what the first of it wrote: it is on a cycle with the
+ * whole chain, and on no shorter one. */
+static void add_closers(struct log *l, unsigned from, unsigned to, unsigned first, unsigned last)
+{
+    for (unsigned t = from; t <= to; t++) {
+        add(l, BEGIN, t, 0, 0);
+        for (unsigned i = 0; i < 5; i++) {
+            if (i % 2 == 0)
+                add(l, READ, t, 1 + first - last, last);
+            else
+                add(l, READ, t, 1, 0);
+        }
+        add(l, COMMIT, t, 0, 0);
+    }
+}
+
+/* Those on a cycle have the highest numbers, so that all others come back before them. */
+static void long_cycles(struct log *l)
+{
+    add_chain(l, 61, 1, 0, 0);
+    add_hub(l, 62, 61, 1, 71);
+    add_closers(l, 63, 128, 61, 1);
+}
+
+/* Those on a cycle have the lowest numbers, and a second chain goes on from the hub of the first. */
+static void cycles_and_chain(struct log *l)
+{
+    add_chain(l, 127, 86, 0, 0);
+    add_hub(l, 128, 127, 86, 47);
+    add_closers(l, 1, 42, 127, 86);
+    add_chain(l, 85, 43, 62, 128);
+}
+
+/* Blind writers of the same six objects, one after the other. */
+static void same_writers(struct log *l)
+{
+    for (unsigned t = 128; t >= 1; t--) {
+        add(l, BEGIN, t, 0, 0);
+        for (unsigned x = 0; x < 6; x++)
+            add(l, WRITE, t, x, 0);
+        add(l, COMMIT, t, 0, 0);
+    }
+}
+
 static void write_text(struct log *l)
 {
     static const char *const words[] = {"begin", "read", "write", "commit", "abort"};
@@ -200,11 +297,17 @@ static void write_text(struct log *l)
     l->text_length = used;
 }
 
-static void make_random(struct workload *w, unsigned steps)
+static void make_random(struct workload *w, unsigned steps, unsigned objects, int dirty)
 {
     w->count = MOST_LOGS;
     for (unsigned i = 0; i < w->count; i++)
-        random_log(&w->logs[i], steps, 0x9e3779b97f4a7c15 + 977 * i);
+        random_log(&w->logs[i], steps, (struct draw){0x9e3779b97f4a7c15 + 977 * i, objects, dirty, {0}});
+}
+
+static void write_texts(struct workload *w)
+{
+    for (unsigned i = 0; i < w->count; i++)
+        write_text(&w->logs[i]);
 }
 
 static const char *const workloads[] = {
@@ -225,12 +328,11 @@ void make_workload(unsigned index, struct workload *w)
     case 2: cycle_of_2(w->logs); break;
     case 3: cycle_of_128(w->logs); break;
     case 4: case 5: case 6: case 7: chain(w->logs, 128u << (index - 4)); break;
-    case 8: case 9: case 10: case 11: make_random(w, 128u << (index - 8)); break;
+    case 8: case 9: case 10: case 11: make_random(w, 128u << (index - 8), 64, 0); break;
     case 12: eight(w->logs, 0, 0); break;
     default: eight(w->logs, 1, 2); break;
     }
-    for (unsigned i = 0; i < w->count; i++)
-        write_text(&w->logs[i]);
+    write_texts(w);
 }
 
 static const char *const listings[] = {"6 free writers, 18 steps", "chain of 127 and one free, 1,024 steps"};
@@ -245,5 +347,34 @@ void make_listing(unsigned index, struct workload *w)
         free_writers(w->logs, 6);
     else
         chain_and_one(w->logs);
-    write_text(w->logs);
+    write_texts(w);
+}
+
+/* First those workloads that have 1,024 steps. */
+static const unsigned longest[] = {1, 2, 3, 7, 11, 12, 13};
+enum { LONGEST = sizeof longest / sizeof *longest };
+static const char *const plans[] = {
+    "lost updates, 1,024 steps", "write skews, 1,024 steps", "66 long cycles, 1,024 steps", "42 long cycles and a chain, 1,024 steps",
+    "writers of the same, 1,024 steps", "random, 8 objects, 1,024 steps", "random, dirty reads, 1,024 steps"};
+const unsigned plan_count = LONGEST + sizeof plans / sizeof *plans;
+
+void make_plan(unsigned index, struct workload *w)
+{
+    if (index < LONGEST) {
+        make_workload(longest[index], w);
+        return;
+    }
+    memset(w, 0, sizeof *w);
+    w->name = plans[index - LONGEST];
+    w->count = 1;
+    switch (index - LONGEST) {
+    case 0: lost_updates(w->logs); break;
+    case 1: write_skews(w->logs); break;
+    case 2: long_cycles(w->logs); break;
+    case 3: cycles_and_chain(w->logs); break;
+    case 4: same_writers(w->logs); break;
+    case 5: make_random(w, 1024, 8, 0); break;
+    default: make_random(w, 1024, 64, 1); break;
+    }
+    write_texts(w);
 }

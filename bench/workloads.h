@@ -20,9 +20,10 @@ struct workload {
     struct log logs[MOST_LOGS];
 };
 
-/* Logs for every verdict, and logs for whole listings. */
-extern const unsigned workload_count, listing_count;
+/* Logs for every verdict, logs for whole listings, and logs with commits to redo. */
+extern const unsigned workload_count, listing_count, plan_count;
 void make_workload(unsigned index, struct workload *w);
 void make_listing(unsigned index, struct workload *w);
+void make_plan(unsigned index, struct workload *w);
 
 #endif

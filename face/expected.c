@@ -203,6 +203,49 @@ static void note_written(struct expected *e, const char *line)
     e->write_answer = answer(KRUPOVESH_ACCEPTED, (unsigned)e->written_length, 0);
 }
 
+/* Takes the numbers at the front of a list; how many. */
+static unsigned take_members(const struct expected *e, const char **list, uint16_t *numbers)
+{
+    uint16_t number;
+    unsigned count = 0;
+    for (; take_number(list, &number); numbers[count++] = number)
+        if (count == KRUPOVESH_PROPOSAL)
+            stop("a proposal is too long", e->name);
+    return count;
+}
+
+/* What the judge says, by its word. */
+static uint64_t judged(const struct expected *e, const char *word)
+{
+    unsigned number, place;
+    if (strcmp(word, ": yes") == 0)
+        return answer(KRUPOVESH_YES, 0, 0);
+    if (strcmp(word, ": no") == 0)
+        return answer(KRUPOVESH_NO, 0, 0);
+    if (sscanf(word, ": refused=%u at=%u", &number, &place) != 2)
+        stop("a proposal has no answer", e->name);
+    return answer(KRUPOVESH_REFUSED, number, place);
+}
+
+/* One line of the plans: what the planner writes, or its refusal, or a proposal with what the judge says to it. */
+static void note_plan(struct expected *e, const char *line)
+{
+    unsigned number, place;
+    const char *list = value_of(line, "redo");
+    if (list != NULL)
+        e->redo_answer = answer(KRUPOVESH_ACCEPTED, take_members(e, &list, e->redo), 0);
+    if (sscanf(line, "refused=%u at=%u", &number, &place) == 2)
+        e->redo_answer = answer(KRUPOVESH_REFUSED, number, place);
+    list = value_of(line, "accepts");
+    if (list == NULL)
+        return;
+    if (e->proposal_count == MOST_PROPOSALS)
+        stop("has more proposals than this test keeps", e->name);
+    struct proposal *p = &e->proposals[e->proposal_count++];
+    take_members(e, &list, p->numbers);
+    p->answer = judged(e, list);
+}
+
 /* Notes the lines up to the next text, or the end. */
 static void note_all(struct words *w, struct expected *e, void note(struct expected *, const char *))
 {
@@ -222,7 +265,7 @@ int next_expected(struct said *s, struct expected *e)
         return 0;
     memset(e, 0, sizeof *e);
     const char *line = s->reports->line, *name = value_of(line, "file=");
-    if (name == NULL || !is_at(s->orders, line) || !is_at(s->written, line))
+    if (name == NULL || !is_at(s->orders, line) || !is_at(s->written, line) || !is_at(s->plans, line))
         stop("the files are not of the same texts", line);
     snprintf(e->name, sizeof e->name, "%s", name);
     load_text(e);
@@ -230,5 +273,6 @@ int next_expected(struct said *s, struct expected *e)
     note_all(s->reports, e, note_line);
     note_all(s->orders, e, note_order);
     note_all(s->written, e, note_written);
+    note_all(s->plans, e, note_plan);
     return 1;
 }

@@ -7,7 +7,13 @@
 
 #include "lent.h"
 
-enum { MOST_ORDERS = 64, MOST_TEXT = 100000 };
+enum { MOST_ORDERS = 64, MOST_PROPOSALS = 64, MOST_TEXT = 100000 };
+
+/* A proposal, and what the judge says to it. */
+struct proposal {
+    uint16_t numbers[KRUPOVESH_PROPOSAL];
+    uint64_t answer;
+};
 
 struct expected {
     char name[512];
@@ -36,12 +42,17 @@ struct expected {
     uint16_t orders[MOST_ORDERS][KRUPOVESH_WITNESS]; /* as a witness shows them */
     size_t order_count;
     int is_whole_list; /* whether none comes after the last of them */
+
+    uint64_t redo_answer; /* what the planner answers to the steps, and what it writes */
+    uint16_t redo[KRUPOVESH_PROPOSAL];
+    struct proposal proposals[MOST_PROPOSALS];
+    size_t proposal_count;
 };
 
-/* What `report`, `orders` and `write` have said of the same texts, each in its file. */
+/* What `report`, `orders`, `write` and `plans` have said of the same texts, each in its file. */
 struct words;
 struct said {
-    struct words *reports, *orders, *written;
+    struct words *reports, *orders, *written, *plans;
 };
 struct words *open_words(const char *path);
 

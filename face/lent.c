@@ -7,18 +7,18 @@
 enum { GUARD = 64, ROOM = GUARD + MOST_BYTES + GUARD };
 
 static const size_t right[BUFFERS] = {
-    [ORDER] = KRUPOVESH_HANDED, [WORK] = KRUPOVESH_WORK, [WITNESS] = KRUPOVESH_WITNESS,
+    [ORDER] = KRUPOVESH_HANDED, [PROPOSAL] = KRUPOVESH_PROPOSAL, [WORK] = KRUPOVESH_WORK, [WITNESS] = KRUPOVESH_WITNESS,
     [STEPS] = KRUPOVESH_STEPS, [OUT] = KRUPOVESH_REPORT, [WRITTEN] = KRUPOVESH_TEXT,
     [STATE] = KRUPOVESH_LIVE_STATE, [OPEN] = KRUPOVESH_LIVE_OPENED, [ROWS] = KRUPOVESH_LIVE_ROWS,
     [MARKS] = KRUPOVESH_LIVE_MARKS, [EDGES] = KRUPOVESH_LIVE_EDGES};
 static const size_t entry_size[BUFFERS] = {
     [LOG] = 2, [TEXT] = 1, [PART] = 2, [ANSWERS] = 2,
-    [ORDER] = 2, [WORK] = 1, [WITNESS] = 2, [STEPS] = 2, [OUT] = 1, [WRITTEN] = 1,
+    [ORDER] = 2, [PROPOSAL] = 2, [WORK] = 1, [WITNESS] = 2, [STEPS] = 2, [OUT] = 1, [WRITTEN] = 1,
     [STATE] = 2, [OPEN] = 2, [ROWS] = 2, [MARKS] = 8, [EDGES] = 8};
 static const char *const function_names[FUNCTIONS] = {
-    "clean", "snapshot", "conflict", "version", "exact", "next", "write", "read", "report", "live"};
+    "clean", "snapshot", "conflict", "version", "exact", "next", "accepts", "redo", "write", "read", "report", "live"};
 static const char *const buffer_names[BUFFERS] = {
-    "log", "text", "part", "answers", "order", "work", "witness", "steps", "out", "written",
+    "log", "text", "part", "answers", "order", "proposal", "work", "witness", "steps", "out", "written",
     "state", "opened", "rows", "marks", "edges"};
 
 /* The buffers of each function, one bit each. */
@@ -29,6 +29,8 @@ static const unsigned taken[FUNCTIONS] = {
     [VERSION] = 1 << LOG | 1 << WORK | 1 << WITNESS,
     [EXACT] = 1 << LOG | 1 << WORK | 1 << WITNESS,
     [NEXT] = 1 << LOG | 1 << ORDER | 1 << WORK | 1 << WITNESS,
+    [ACCEPTS] = 1 << LOG | 1 << PROPOSAL | 1 << WORK,
+    [REDO] = 1 << LOG | 1 << WORK | 1 << PROPOSAL,
     [WRITE] = 1 << LOG | 1 << WRITTEN,
     [READ] = 1 << TEXT | 1 << STEPS,
     [REPORT] = 1 << TEXT | 1 << OUT,
@@ -150,7 +152,7 @@ static uint64_t call(enum function f)
 {
     const uint16_t *log = numbers_of(LOG), *order = numbers_of(ORDER);
     const uint8_t *text = bytes_of(TEXT);
-    uint16_t *witness = numbers_of(WITNESS), *steps = numbers_of(STEPS);
+    uint16_t *witness = numbers_of(WITNESS), *steps = numbers_of(STEPS), *proposal = numbers_of(PROPOSAL);
     uint8_t *work = bytes_of(WORK), *out = bytes_of(OUT), *written = bytes_of(WRITTEN);
 
     switch (f) {
@@ -161,6 +163,8 @@ static uint64_t call(enum function f)
     case EXACT: return krupovesh_exact(log, length[LOG], work, length[WORK], witness, length[WITNESS]);
     case NEXT:
         return krupovesh_next(log, length[LOG], order, length[ORDER], work, length[WORK], witness, length[WITNESS]);
+    case ACCEPTS: return krupovesh_accepts(log, length[LOG], proposal, length[PROPOSAL], work, length[WORK]);
+    case REDO: return krupovesh_redo(log, length[LOG], work, length[WORK], proposal, length[PROPOSAL]);
     case WRITE: return krupovesh_write(log, length[LOG], written, length[WRITTEN]);
     case READ: return krupovesh_read(text, length[TEXT], steps, length[STEPS]);
     case LIVE: return call_live();

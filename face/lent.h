@@ -11,10 +11,10 @@
 enum { MOST_BYTES = 600000 };
 
 /* Those up to WRITE take a log. OUT is the report's buffer, WRITTEN the writer's, and STATE to EDGES are the live judge's state. */
-enum function { CLEAN, SNAPSHOT, CONFLICT, VERSION, EXACT, NEXT, WRITE, READ, REPORT, LIVE, FUNCTIONS };
+enum function { CLEAN, SNAPSHOT, CONFLICT, VERSION, EXACT, NEXT, ACCEPTS, REDO, WRITE, READ, REPORT, LIVE, FUNCTIONS };
 enum buffer {
     LOG, TEXT, PART, ANSWERS,
-    ORDER, WORK, WITNESS, STEPS, OUT, WRITTEN,
+    ORDER, PROPOSAL, WORK, WITNESS, STEPS, OUT, WRITTEN,
     STATE, OPEN, ROWS, MARKS, EDGES,
     BUFFERS
 };

@@ -1,5 +1,6 @@
 /* Tests the C face from outside: wrong lengths, logs and texts with what the second program says of them, dirty buffers everywhere.
- * Called with four files: what `second report`, `second orders` and `second write` have said of the same texts, and `second streams`.
+ * Called with five files: what `second report`, `second orders`, `second write` and `second plans` have said of the same texts, and
+ * `second streams`.
  * The last line says how many calls agree; the exit status is 0 exactly when all do. */
 #include <stdio.h>
 #include <string.h>
@@ -7,6 +8,7 @@
 #include "expected.h"
 #include "lent.h"
 #include "live.h"
+#include "redo.h"
 
 static struct expected e;
 
@@ -266,11 +268,11 @@ static void try_report(void)
 int main(int count, char **words)
 {
     unsigned long texts = 0;
-    if (count != 5) {
-        fprintf(stderr, "test REPORTS ORDERS WRITTEN STREAMS\n");
+    if (count != 6) {
+        fprintf(stderr, "test REPORTS ORDERS WRITTEN PLANS STREAMS\n");
         return 2;
     }
-    struct said said = {open_words(words[1]), open_words(words[2]), open_words(words[3])};
+    struct said said = {open_words(words[1]), open_words(words[2]), open_words(words[3]), open_words(words[4])};
 
     for (enum function f = CLEAN; f <= REPORT; f++)
         try_lengths(f);
@@ -286,8 +288,10 @@ int main(int count, char **words)
         try_strangers();
         try_swaps();
         try_write();
+        try_redo(&e);
     }
-    unsigned long streams = try_live(words[4]);
+    unsigned long streams = try_live(words[5]);
+    int is_whole = is_whole_redo();
     printf("face: %lu of %lu calls agree, over %lu texts and %lu streams\n", agreeing, calls, texts, streams);
-    return agreeing == calls && texts != 0 && streams != 0 ? 0 : 1;
+    return agreeing == calls && texts != 0 && streams != 0 && is_whole ? 0 : 1;
 }

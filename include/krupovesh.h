@@ -1,4 +1,5 @@
-/* The C face of Krupovesh: the verdicts over a log's numbers, the text reader, the writer, the report, and the live judge.
+/* The C face of Krupovesh: the verdicts over a log's numbers, the text reader, the writer, the report, the live judge, and which
+ * commits to redo.
  *
  * Each buffer is a pointer, which is never null, and a length in numbers or bytes. Any length and any contents may be handed in.
  * No two buffers of a call may overlap.
@@ -20,9 +21,11 @@
  *                                                      should have found         or 0 for writer 0 and
  *                                                                                for the reader itself
  *     KRUPOVESH_WRITE_AT      step of the commit       the partner               0
- *     KRUPOVESH_ACCEPTED      steps read, or bytes     0                         0
- *                             written; 0 from the
+ *     KRUPOVESH_ACCEPTED      steps read, bytes        0                         0
+ *                             written, or members
+ *                             proposed; 0 from the
  *                             live judge
+ *     KRUPOVESH_NO            0                        0                         0
  *
  * Writer 0 is the store before the log began.
  *
@@ -48,6 +51,7 @@ extern "C" {
 #define KRUPOVESH_WORK 16384
 #define KRUPOVESH_WITNESS 384
 #define KRUPOVESH_HANDED 128
+#define KRUPOVESH_PROPOSAL 128
 #define KRUPOVESH_STEPS 4096
 #define KRUPOVESH_REPORT 4096
 #define KRUPOVESH_TEXT 33803
@@ -76,6 +80,7 @@ extern "C" {
 #define KRUPOVESH_READ_AT 8
 #define KRUPOVESH_WRITE_AT 9
 #define KRUPOVESH_ACCEPTED 10
+#define KRUPOVESH_NO 11
 
 /* What the live judge says to a step that it does not refuse. */
 #define KRUPOVESH_LIVE_TAKEN 64
@@ -151,6 +156,21 @@ uint64_t krupovesh_live(uint16_t *state, size_t state_length, uint16_t *opened, 
                         uint16_t *rows, size_t rows_length, uint64_t *marks, size_t marks_length,
                         uint64_t *edges, size_t edges_length, const uint16_t *part, size_t part_length,
                         uint16_t *answers, size_t answers_length);
+
+/* A proposal names commits to take back: that means the log with those commits turned into aborts. It has KRUPOVESH_PROPOSAL numbers,
+ * its members first, in any order, and zeros after them. A log is fine when it is clean and has a version order; a proposal will do
+ * when the log that it means is fine, and turning any single member back into a commit would spoil that.
+ *
+ * Judges a proposal, whoever made it. Refused, yes, no. Refused with number 19 at place 0, after all numbers of the log itself, where
+ * it names the same transaction twice, or one that isn't committed, or has a member after a zero. */
+uint64_t krupovesh_accepts(const uint16_t *log, size_t log_length, const uint16_t *proposal, size_t proposal_length,
+                           uint8_t *work, size_t work_length);
+
+/* Writes a proposal that will do, its members rising, zeros behind them: no members where the log is fine already. Every commit is
+ * taken back at first; then, again and again, the lowest is given back that leaves the log fine, until none does. Refused, or
+ * accepted with the number of members. */
+uint64_t krupovesh_redo(const uint16_t *log, size_t log_length, uint8_t *work, size_t work_length,
+                        uint16_t *proposal, size_t proposal_length);
 
 #ifdef __cplusplus
 }

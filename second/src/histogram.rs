@@ -2,6 +2,7 @@
 //! they miss.
 
 mod live;
+mod plans;
 
 use std::collections::BTreeMap;
 
@@ -18,6 +19,7 @@ pub fn histogram(seed: u64, count: usize) -> (Vec<String>, Vec<String>) {
         table.add_texts(sort, seed, count);
     }
     table.add_streams(seed, count);
+    table.add_plans(seed, count);
     (table.lines, table.missed)
 }
 
@@ -36,6 +38,16 @@ impl Table {
     pub fn add_streams(&mut self, seed: u64, count: usize) {
         let met = (1..=count).flat_map(|index| live::of_stream(&stream_of(seed, index)));
         self.add("streams", met, live::STREAMS.to_vec());
+    }
+
+    /// The planner and the judge, over logs that pass the check and some that
+    /// do not.
+    pub fn add_plans(&mut self, seed: u64, count: usize) {
+        let sorts = [Sort::Small, Sort::Tangled, Sort::Damaged];
+        let texts = (1..=count).flat_map(|index| sorts.map(|sort| (index, sort)));
+        let met =
+            texts.flat_map(|(index, sort)| plans::of_text(seed, index, &sort.text(seed, index)));
+        self.add("plans", met, plans::PLANS.to_vec());
     }
 
     /// How often the texts of this name have met each outcome, and which of
@@ -69,7 +81,7 @@ fn outcomes(sort: Sort, text: &[u8]) -> Vec<String> {
         return vec![first.to_string()];
     }
     match sort {
-        Sort::Small => verdicts(report),
+        Sort::Small | Sort::Tangled => verdicts(report),
         Sort::Limits => [verdicts(report), extremes(text, report)].concat(),
         _ => vec!["accepted".to_string()],
     }
@@ -201,6 +213,7 @@ fn wanted(sort: Sort) -> Vec<&'static str> {
         Sort::Texts => TEXTS.to_vec(),
         Sort::Limits => LIMITS.to_vec(),
         Sort::Live => live::TEXTS.to_vec(),
+        Sort::Tangled => TANGLED.to_vec(),
     }
 }
 
@@ -285,4 +298,14 @@ const LIMITS: [&str; 31] = [
     "refused=2",
     "refused=4",
     "refused=5",
+];
+
+const TANGLED: [&str; 7] = [
+    "clean=yes",
+    "clean=own",
+    "clean=aborted",
+    "clean=unfinal",
+    "version=order",
+    "version=cycle",
+    "version=unclean",
 ];

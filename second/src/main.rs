@@ -1,6 +1,8 @@
-//! The commands: report, orders, write, keep, watch, graphs, make, every,
-//! streams, histogram.
+//! The commands: report, orders, write, keep, watch, redo, accepts, plans,
+//! graphs, make, every, streams, histogram.
 
+mod accepts;
+mod astray;
 mod every;
 mod forgetful;
 mod graph;
@@ -10,7 +12,10 @@ mod live;
 mod log;
 mod make;
 mod permutations;
+mod plans;
+mod proposals;
 mod reasons;
+mod redo;
 mod replay;
 mod report;
 mod rng;
@@ -34,8 +39,11 @@ second orders [--most N] [FILE ..]
 second write [FILE ..]
 second keep T,T,.. [FILE ..]
 second watch [FILE ..]
+second redo [FILE ..]
+second accepts T,T,..|- [FILE ..]
+second plans SEED [FILE ..]
 second graphs
-second make small|damaged|texts|limits|live SEED COUNT DIR
+second make small|damaged|texts|limits|live|tangled SEED COUNT DIR
 second every [--count] STEPS TRANSACTIONS OBJECTS
 second streams SEED COUNT
 second histogram SEED COUNT";
@@ -68,6 +76,12 @@ fn run(args: &[OsString], out: &mut dyn Write) -> io::Result<bool> {
         ["write", ..] => answer_each(&args[1..], out, &write::write),
         ["keep", list, ..] => keep(list, &args[2..], out),
         ["watch", ..] => answer_each(&args[1..], out, &watch::watch),
+        ["redo", ..] => answer_each(&args[1..], out, &redo::redo),
+        ["accepts", list, ..] => accepts(list, &args[2..], out),
+        ["plans", seed, ..] => match seed.parse() {
+            Ok(seed) => plans(seed, &args[2..], out),
+            Err(_) => usage(),
+        },
         ["graphs"] => out.write_all(graphs::lines().as_bytes()).map(|_| true),
         ["make", kind, seed, count, _] => match make::Sort::named(kind) {
             Some(sort) => seeded(seed, count, |seed, count| {
@@ -166,6 +180,24 @@ fn keep(list: &str, files: &[OsString], out: &mut dyn Write) -> io::Result<bool>
             Ok(false)
         }
     }
+}
+
+fn accepts(list: &str, files: &[OsString], out: &mut dyn Write) -> io::Result<bool> {
+    match accepts::members(list) {
+        Some(members) => answer_each(files, out, &|text| accepts::accepts(&members, text)),
+        None => {
+            eprintln!("second: accepts takes numbers 1 to 128 with commas between, or -");
+            Ok(false)
+        }
+    }
+}
+
+fn plans(seed: u64, files: &[OsString], out: &mut dyn Write) -> io::Result<bool> {
+    let mut index = 0;
+    each_text(files, out, &mut |text, out| {
+        index += 1;
+        out.write_all(plans::lines(seed, index, text).as_bytes())
+    })
 }
 
 fn orders(files: &[OsString], most: Option<usize>, out: &mut dyn Write) -> io::Result<bool> {

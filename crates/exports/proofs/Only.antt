@@ -13,7 +13,10 @@ use Rattle.text.proofs.WriteCalls.{write-call-one}
 use Rattle.live.specs.LiveCall.{Buffers, LiveCall}
 use Rattle.live.specs.Live.{Calls}
 use Rattle.live.proofs.ByCalls.{live-call-one}
-use Rattle.exports.specs.Packed.{Numbers, clean-numbers, snapshot-numbers, witness-numbers, text-numbers, live-numbers, packed, Packs, packs}
+use Rattle.plan.specs.AcceptsCall.{AcceptsCall}
+use Rattle.plan.specs.RedoCall.{RedoCall}
+use Rattle.plan.proofs.ByCalls.{accepts-call-one, redo-call-one}
+use Rattle.exports.specs.Packed.{Numbers, clean-numbers, snapshot-numbers, witness-numbers, text-numbers, live-numbers, accepts-numbers, redo-numbers, packed, Packs, packs}
 
 -- two calls that allow one answer, and leave one thing, have one number
 pub packs-one : {A Left : Type 0} {call call′ : A → Type 0} {numbers : A → Numbers} {r s : ℕ} → ((a b : A) → call a → call′ b → (a ≡ b) × Left)
@@ -59,3 +62,11 @@ module _ (log : List ℕ) {out : List ℕ} {r s : ℕ} {v w : List ℕ} where
 pub packed-live-one : {run said part answers x y : List ℕ} {b left left′ : Buffers} {r s : ℕ} → Calls run said b
     → Packs (λ a. LiveCall b part answers a left x) live-numbers r → Packs (λ a. LiveCall b part answers a left′ y) live-numbers s → (r ≡ s) × (x ≡ y)
 packed-live-one k = packs-one (λ a b c d. live-call-one k c d)
+
+-- the judge of a proposal, and the planner
+pub packed-accepts-one : (log proposal : List ℕ) {work : List ℕ} {r s : ℕ} {v w : List ℕ} → Packs (λ a. AcceptsCall log proposal work a v) accepts-numbers r → Packs (λ a. AcceptsCall log proposal work a w) accepts-numbers s → (r ≡ s) × (v ≡ w)
+packed-accepts-one log proposal = packs-one (λ a b c d. accepts-call-one log proposal c d)
+
+pub packed-redo-one : (log : List ℕ) {work proposal : List ℕ} {r s : ℕ} {v w x y : List ℕ} → Packs (λ a. RedoCall log work proposal a v x) redo-numbers r → Packs (λ a. RedoCall log work proposal a w y) redo-numbers s
+    → (r ≡ s) × ((v ≡ w) × (x ≡ y))
+packed-redo-one log = packs-one (λ a b c d. let o = redo-call-one log c d in (o .0, (o .1, o .2)))

@@ -30,8 +30,13 @@ use Rattle.text.specs.declared.TextAnswer.{TextAnswer}
 use Rattle.text.specs.declared.TextAnswer.the-variants as text-answer
 use Rattle.live.specs.declared.LiveAnswer.{LiveAnswer}
 use Rattle.live.specs.LiveCall.{Buffers, LiveCall}
-use Rattle.exports.specs.Packed.{Numbers, fault-numbers, clean-numbers, read-numbers, snapshot-numbers, witness-numbers, text-numbers, live-numbers, packed, Packs, packs}
-use Rattle.exports.proofs.Values.{Short, clean-short, snapshot-short, conflict-short, version-short, exact-short, next-short, read-short, report-short, write-short, live-short}
+use Rattle.plan.specs.AcceptsCall.{AcceptsCall}
+use Rattle.plan.specs.RedoCall.{RedoCall}
+use Rattle.plan.specs.declared.answers.Acceptance.{Acceptance}
+use Rattle.plan.specs.declared.answers.AcceptsAnswer.{AcceptsAnswer}
+use Rattle.plan.specs.declared.answers.RedoAnswer.{RedoAnswer}
+use Rattle.exports.specs.Packed.{Numbers, fault-numbers, clean-numbers, read-numbers, snapshot-numbers, witness-numbers, text-numbers, live-numbers, accepts-numbers, redo-numbers, packed, Packs, packs}
+use Rattle.exports.proofs.Values.{Short, clean-short, snapshot-short, conflict-short, version-short, exact-short, next-short, read-short, report-short, write-short, live-short, accepts-short, redo-short}
 
 -- the header's macros
 unfoldable pub kind-of : ℕ → ℕ
@@ -95,6 +100,12 @@ module _ (log : List ℕ) {out out′ : List ℕ} {r : ℕ} where
 
 pub live-parts : {part answers answers′ : List ℕ} {b left : Buffers} {r : ℕ} → Packs (λ a. LiveCall b part answers a left answers′) live-numbers r → Parts (λ a. LiveCall b part answers a left answers′) live-numbers r
 live-parts = parts-told (λ a c. live-short c)
+
+pub accepts-parts : (log proposal : List ℕ) {work work′ : List ℕ} {r : ℕ} → Packs (λ a. AcceptsCall log proposal work a work′) accepts-numbers r → Parts (λ a. AcceptsCall log proposal work a work′) accepts-numbers r
+accepts-parts log proposal {work} = parts-told (λ a c. accepts-short log proposal work c)
+
+pub redo-parts : (log : List ℕ) {work proposal work′ proposal′ : List ℕ} {r : ℕ} → Packs (λ a. RedoCall log work proposal a work′ proposal′) redo-numbers r → Parts (λ a. RedoCall log work proposal a work′ proposal′) redo-numbers r
+redo-parts log {work} {proposal} = parts-told (λ a c. redo-short log work proposal c)
 
 -- THE NUMBERS TELL THE ANSWER
 -- what has a way back is told apart
@@ -205,3 +216,26 @@ live-numbers-one = apart live-numbers back told
     told : (a : LiveAnswer) → back (live-numbers a) ≡ a
     told (LiveAnswer.Refused n) = refl
     told LiveAnswer.Accepted = refl
+
+pub accepts-numbers-one : {a b : AcceptsAnswer} → accepts-numbers a ≡ accepts-numbers b → a ≡ b
+unfolding accepts-numbers if_then_else_ _is_
+accepts-numbers-one = apart accepts-numbers back told
+  where
+    back : Numbers → AcceptsAnswer
+    back n = if n .kind is 0 then AcceptsAnswer.Refused (n .first) (n .second) else if n .kind is 7 then AcceptsAnswer.Judged Acceptance.Yes else AcceptsAnswer.Judged Acceptance.No
+
+    told : (a : AcceptsAnswer) → back (accepts-numbers a) ≡ a
+    told (AcceptsAnswer.Refused n p) = refl
+    told (AcceptsAnswer.Judged Acceptance.Yes) = refl
+    told (AcceptsAnswer.Judged Acceptance.No) = refl
+
+pub redo-numbers-one : {a b : RedoAnswer} → redo-numbers a ≡ redo-numbers b → a ≡ b
+unfolding redo-numbers if_then_else_ _is_
+redo-numbers-one = apart redo-numbers back told
+  where
+    back : Numbers → RedoAnswer
+    back n = if n .kind is 0 then RedoAnswer.Refused (n .first) (n .second) else RedoAnswer.Proposed (n .first)
+
+    told : (a : RedoAnswer) → back (redo-numbers a) ≡ a
+    told (RedoAnswer.Refused n p) = refl
+    told (RedoAnswer.Proposed n) = refl

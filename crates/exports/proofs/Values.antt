@@ -38,7 +38,15 @@ use Rattle.live.specs.declared.LiveAnswer.{LiveAnswer}
 use Rattle.live.specs.LiveCall as live-call
 use Rattle.live.specs.LiveCall.{Buffers, LiveCall}
 use Rattle.live.proofs.Calling.{call-within}
-use Rattle.exports.specs.Packed.{Numbers, _with_and_, _with_and_then_, fault-numbers, clean-numbers, read-numbers, snapshot-numbers, witness-numbers, text-numbers, live-numbers, packed}
+use Rattle.plan.specs.AcceptsCall.{AcceptsCall}
+use Rattle.plan.specs.RedoCall.{says-members, RedoCall}
+use Rattle.plan.specs.declared.answers.Acceptance.{Acceptance}
+use Rattle.plan.specs.declared.answers.Acceptance.the-variants.{Yes, No}
+use Rattle.plan.specs.declared.answers.AcceptsAnswer.{AcceptsAnswer}
+use Rattle.plan.specs.declared.answers.AcceptsAnswer.the-variants as accepts-answer
+use Rattle.plan.specs.declared.answers.RedoAnswer.{RedoAnswer}
+use Rattle.plan.proofs.Few.{length-within, proposal-within, redo-few}
+use Rattle.exports.specs.Packed.{Numbers, _with_and_, _with_and_then_, fault-numbers, clean-numbers, read-numbers, snapshot-numbers, witness-numbers, text-numbers, live-numbers, accepts-numbers, redo-numbers, packed}
 use Rattle.exports.specs.Inner.Small.{Small}
 
 -- 16 bits each
@@ -61,10 +69,10 @@ pub known-packed : {A : Type 0} (numbers : A → Numbers) {a b : A} {r : ℕ} �
 known-packed {A} numbers e h = h ∙ sym (ap (λ (z : A). packed (numbers z)) e)
 
 -- numbers that are written out
-short-three : {k a b c : ℕ} → k < 11 → a < 65536 → b < 65536 → c < 65536 → Short (k with a and b then c)
+short-three : {k a b c : ℕ} → k < 12 → a < 65536 → b < 65536 → c < 65536 → Short (k with a and b then c)
 short-three h i j l = record { kind-short = omega arith; first-short = omega arith; second-short = omega arith; third-short = omega arith }
 
-short : {k a b : ℕ} → k < 11 → a < 65536 → b < 65536 → Short (k with a and b)
+short : {k a b : ℕ} → k < 12 → a < 65536 → b < 65536 → Short (k with a and b)
 short h i j = short-three h i j (omega arith)
 
 refused-short : {n p : ℕ} → (n < 10000) × (p < 10000) → Short (0 with n and p)
@@ -166,3 +174,23 @@ pub live-short : {b left : Buffers} {part answers answers′ : List ℕ} {r : Li
 unfolding live-numbers
 live-short {b} {part = part} {answers} (live-call.turned-away n p e x y z) = rw x (short (omega arith) (omega (arith, call-within b part answers n p (sym e) .0)) (omega arith))
 live-short (live-call.answered e x j) = rw x (short (omega arith) (omega arith) (omega arith))
+
+-- THE JUDGE OF A PROPOSAL, AND THE PLANNER
+acceptance-short : (a : Acceptance) → Short (accepts-numbers (accepts-answer.Judged a))
+unfolding accepts-numbers
+acceptance-short Yes = short (omega arith) (omega arith) (omega arith)
+acceptance-short No = short (omega arith) (omega arith) (omega arith)
+
+pub accepts-short : (log proposal work : List ℕ) {r : AcceptsAnswer} {work′ : List ℕ} → AcceptsCall log proposal work r work′ → Short (accepts-numbers r)
+unfolding accepts-numbers
+accepts-short log proposal work =
+    call-short accepts-numbers
+    (λ n p e. refused-short (within-else _ _ (work-within work) (λ t. within-else _ _ (length-within proposal) (λ u. within-else _ _ (log-within log) (λ v. proposal-within log proposal))) n p (sym e)))
+    (λ a e v. acceptance-short a)
+
+pub redo-short : (log work proposal : List ℕ) {r : RedoAnswer} {work′ proposal′ : List ℕ} → RedoCall log work proposal r work′ proposal′ → Short (redo-numbers r)
+unfolding redo-numbers says-members
+redo-short log work proposal =
+    call-short redo-numbers
+    (λ n p e. refused-short (within-else _ _ (work-within work) (λ t. within-else _ _ (length-within proposal) (λ u. log-within log)) n p (sym e)))
+    (λ w e v. short (omega arith) (omega (arith, redo-few log (else-try→ (else-try→ (sym e) .1) .1) v)) (omega arith))

@@ -1,5 +1,5 @@
 -- The one number that a C call answers: its low 16 bits are the kind of answer, then come three values of 16 bits, 0 where there is none.
--- The kinds: 0 refused, 1 order, 2 cycle, 3 none, 4 aborted, 5 unfinal, 6 own, 7 yes, 8 read at, 9 write at, 10 accepted.
+-- The kinds: 0 refused, 1 order, 2 cycle, 3 none, 4 aborted, 5 unfinal, 6 own, 7 yes, 8 read at, 9 write at, 10 accepted, 11 no.
 use mathlib.Core.Path.{_≡_}
 use Prim.Native.Nat.{ℕ, _+_, _*_}
 use Rattle.verdict.specs.declared.answers.Fault.{Fault}
@@ -12,6 +12,9 @@ use Rattle.verdict.specs.declared.answers.SnapshotAnswer.{SnapshotAnswer}
 use Rattle.verdict.specs.declared.answers.WitnessAnswer.{WitnessAnswer}
 use Rattle.text.specs.declared.TextAnswer.{TextAnswer}
 use Rattle.live.specs.declared.LiveAnswer.{LiveAnswer}
+use Rattle.plan.specs.declared.answers.Acceptance.{Acceptance}
+use Rattle.plan.specs.declared.answers.AcceptsAnswer.{AcceptsAnswer}
+use Rattle.plan.specs.declared.answers.RedoAnswer.{RedoAnswer}
 
 pub record Numbers : Type 0 where
   pub kind : ℕ
@@ -63,6 +66,15 @@ text-numbers (TextAnswer.Accepted n) = 10 with n and 0
 unfoldable pub live-numbers : LiveAnswer → Numbers
 live-numbers (LiveAnswer.Refused number) = 0 with number and 0
 live-numbers LiveAnswer.Accepted = 10 with 0 and 0
+
+unfoldable pub accepts-numbers : AcceptsAnswer → Numbers
+accepts-numbers (AcceptsAnswer.Refused number place) = 0 with number and place
+accepts-numbers (AcceptsAnswer.Judged Acceptance.Yes) = 7 with 0 and 0
+accepts-numbers (AcceptsAnswer.Judged Acceptance.No) = 11 with 0 and 0
+
+unfoldable pub redo-numbers : RedoAnswer → Numbers
+redo-numbers (RedoAnswer.Refused number place) = 0 with number and place
+redo-numbers (RedoAnswer.Proposed n) = 10 with n and 0
 
 unfoldable pub packed : Numbers → ℕ
 packed n = n .kind + 65536 * (n .first + 65536 * (n .second + 65536 * n .third))

@@ -6,9 +6,13 @@ ghost use Rattle.text.specs.ReadCall.{ReadCall};
 ghost use Rattle.text.specs.ReportCall.{ReportCall};
 ghost use Rattle.text.specs.WriteCall.{WriteCall};
 ghost use Rattle.live.specs.LiveCall.{buffers, LiveCall};
-ghost use Rattle.exports.specs.Packed.{clean-numbers, snapshot-numbers, witness-numbers, text-numbers, live-numbers, Packs};
+ghost use Rattle.plan.specs.AcceptsCall.{AcceptsCall};
+ghost use Rattle.plan.specs.RedoCall.{RedoCall};
+ghost use Rattle.exports.specs.Packed.{clean-numbers, snapshot-numbers, witness-numbers, text-numbers, live-numbers, accepts-numbers, redo-numbers, Packs};
+use crate::pack::pack_accepts;
 use crate::pack::pack_clean;
 use crate::pack::pack_live;
+use crate::pack::pack_redo;
 use crate::pack::pack_snapshot;
 use crate::pack::pack_text;
 use crate::pack::pack_witness;
@@ -115,4 +119,22 @@ pub extern "C" fn krupovesh_live(
 {
     let answer = live::live(state, opened, rows, marks, edges, part, answers);
     pack_live(answer)
+}
+
+// Whether a proposal of commits to take back will do.
+#[no_mangle]
+pub extern "C" fn krupovesh_accepts(log: &[u16], proposal: &[u16], work: &mut [u8]) -> u64
+    ensures { λ r. ⌜ Packs (λ a. AcceptsCall (now (log .entry)) (now (proposal .entry)) (now (work .entry)) a (now (work .exit))) accepts-numbers r ⌝ }
+{
+    let answer = plan::accepts(log, proposal, work);
+    pack_accepts(answer)
+}
+
+// Which commits to redo: they are put into the proposal.
+#[no_mangle]
+pub extern "C" fn krupovesh_redo(log: &[u16], work: &mut [u8], proposal: &mut [u16]) -> u64
+    ensures { λ r. ⌜ Packs (λ a. RedoCall (now (log .entry)) (now (work .entry)) (now (proposal .entry)) a (now (work .exit)) (now (proposal .exit))) redo-numbers r ⌝ }
+{
+    let answer = plan::redo(log, work, proposal);
+    pack_redo(answer)
 }

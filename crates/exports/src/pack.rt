@@ -1,8 +1,11 @@
 // The one number in which a C call answers.
 ghost use mathlib.Core.Path.{_≡_};
-ghost use Rattle.exports.specs.Packed.{_with_and_then_, fault-numbers, clean-numbers, read-numbers, snapshot-numbers, witness-numbers, text-numbers, live-numbers, packed};
+ghost use Rattle.exports.specs.Packed.{_with_and_then_, fault-numbers, clean-numbers, read-numbers, snapshot-numbers, witness-numbers, text-numbers, live-numbers, accepts-numbers, redo-numbers, packed};
 ghost use Rattle.exports.specs.Inner.Small.{Small};
 use live::LiveAnswer;
+use plan::Acceptance;
+use plan::AcceptsAnswer;
+use plan::RedoAnswer;
 use text::TextAnswer;
 use verdict::answers::Answer;
 use verdict::answers::CleanAnswer;
@@ -35,6 +38,8 @@ const READ_AT: u64 = 8;
 const WRITE_AT: u64 = 9;
 
 const ACCEPTED: u64 = 10;
+
+const NO: u64 = 11;
 
 // The number of a kind and three values: 16 bits for each, the kind lowest.
 fn pack(kind: u64, first: u64, second: u64, third: u64) -> u64
@@ -132,5 +137,30 @@ pub(crate) fn pack_live(answer: LiveAnswer) -> u64
     match answer {
         LiveAnswer::Refused(number) => pack(REFUSED, number as u64, 0, 0),
         LiveAnswer::Accepted => pack(ACCEPTED, 0, 0, 0),
+    }
+}
+
+// The number of what the judge of a proposal answers.
+pub(crate) fn pack_accepts(answer: AcceptsAnswer) -> u64
+    requires { ⌜ Small (packed (accepts-numbers answer)) ⌝ }
+    ensures { λ r. ⌜ r ≡ packed (accepts-numbers answer) ⌝ }
+{
+    match answer {
+        AcceptsAnswer::Refused(number, place) => pack(REFUSED, number as u64, place as u64, 0),
+        AcceptsAnswer::Judged(judged) => match judged {
+            Acceptance::Yes => pack(YES, 0, 0, 0),
+            Acceptance::No => pack(NO, 0, 0, 0),
+        },
+    }
+}
+
+// The number of what the planner answers.
+pub(crate) fn pack_redo(answer: RedoAnswer) -> u64
+    requires { ⌜ Small (packed (redo-numbers answer)) ⌝ }
+    ensures { λ r. ⌜ r ≡ packed (redo-numbers answer) ⌝ }
+{
+    match answer {
+        RedoAnswer::Refused(number, place) => pack(REFUSED, number as u64, place as u64, 0),
+        RedoAnswer::Proposed(n) => pack(ACCEPTED, n as u64, 0, 0),
     }
 }

@@ -1,6 +1,10 @@
-// The texts that a program is given: standard input, or the files that its arguments name.
+// What a program is given: standard input, the files that its arguments name, and lists of numbers.
+mod named;
+
 ghost use Rattle.io.specs.Counts.{Counts};
 use libc::STDIN_FILENO;
+pub use named::Listed;
+pub use named::number_at;
 
 // What reading gives: how many bytes stand at the start of the buffer, and whether it failed.
 pub struct Got {

@@ -1,5 +1,4 @@
 // The lines of a report, each from the answer that it tells.
-ghost use mathlib.Core.Path.{_≡_};
 ghost use mathlib.Core.List.{_++_};
 ghost use Prim.Native.Nat.{_*_, _≤_};
 ghost use lib.ListN.{length};
@@ -20,6 +19,7 @@ use verdict::answers::Cleanness;
 use verdict::answers::Fault;
 use verdict::answers::Snapshot;
 use verdict::answers::Writer;
+use verdict::fault_step;
 
 // Puts the line of a refusal.
 pub(crate) fn put_refused(out: &mut [u8], number: u16, place: usize) -> usize
@@ -128,23 +128,12 @@ fn put_members(out: &mut [u8], at: usize, word: &[u8], list: &[u16], n: usize) -
     put_entries(out, a, list, n)
 }
 
-// The step of a fault.
-fn step_of(fault: Fault) -> usize
-    ensures { λ r. ⌜ r ≡ fault-step fault ⌝ }
-{
-    match fault {
-        Fault::Own(k) => k,
-        Fault::Aborted(k) => k,
-        Fault::Unfinal(k) => k,
-    }
-}
-
 // Puts an unclean answer, which tells the step of its fault.
 fn put_unclean(out: &mut [u8], at: usize, fault: Fault) -> usize
     requires { ⌜ Fits (bytes "unclean at " ++ decimal (fault-step fault)) at (now out) ⌝ }
     ensures { λ r. ⌜ Puts (bytes "unclean at " ++ decimal (fault-step fault)) at (now (out .entry)) r (now (out .exit)) ⌝ }
 {
-    put_number(out, at, b"unclean at ", step_of(fault))
+    put_number(out, at, b"unclean at ", fault_step(fault))
 }
 
 // Puts what stands behind the key of a verdict with a witness.

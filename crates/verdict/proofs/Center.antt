@@ -7,32 +7,30 @@ use Prim.Native.Nat.{ℕ, zero, suc, _+_, _≤_, _<_}
 use native.Mathlib.Omega.{arith}
 use Rattle.words.specs.Tests.{_is_, _below_, _or_}
 use Rattle.words.specs.Lists.{member, distinct, before}
-use Rattle.graph.specs.Order.{once-each, keeps}
+use Rattle.graph.specs.Order.{keeps}
 use Rattle.verdict.specs.Log.{steps, kind, tx, obj, src, reads, writes, committed, writer, commit-step}
 use Rattle.verdict.specs.Clean.{judged, judged-other, is-clean}
 use Rattle.verdict.specs.Version.{versions-from, next-version, version-edge}
 use Rattle.verdict.specs.Inner.VersionEdges.{from-writer, from-source, from-reader, plain-version}
 use Rattle.verdict.specs.Replay.{serial, finds, reads-right, writers-in-order, explains-loosely, explains}
-use Rattle.words.proofs.Truth.{decide, not-both, to-true, and→, →and, or→, →or-left, →or-right, fails→, →fails, implies→, →implies, is→, →is, isnt→, →isnt, below→, →below, not-below→, some→, →some, none→, every→, →every}
+use Rattle.words.proofs.Truth.{decide, and→, →and, or→, →or-left, →or-right, fails→, →fails, implies→, →implies, is→, →is, isnt→, →isnt, below→, →below, not-below→, some→, →some, every→, →every}
 use Rattle.words.proofs.Places.{all→, →all, before-left, before-irreflexive, before-trans, before-asym, before-total}
 use Rattle.verdict.proofs.Cleanly.{source-committed}
 use Rattle.verdict.proofs.WellFormed.{Well}
-use Rattle.verdict.proofs.Versions.{not-zero, Wrote, Following, versions-from-zero, versions-from-other, share, shared, committed-range, commit-injective, next→, →next}
+use Rattle.verdict.proofs.Versions.{not-zero, Wrote, Following, versions-from-zero, versions-from-other, share, shared, commit-injective, next→, →next}
+use Rattle.verdict.proofs.Serial.{serial-distinct, serial-committed, serial-member}
 use Rattle.verdict.proofs.Replayed.{Last, None, finds-cases}
 use Rattle.verdict.proofs.Dependencies.{plain-version-edge}
 
 module _ {most : ℕ} (log : List ℕ) (well : Well most log) (w : List ℕ) (ser : serial most log w ≡ true) where
   different : distinct w ≡ true
-  unfolding serial once-each
-  different = and→ (and→ ser .0) .0
+  different = serial-distinct log well w ser
 
   of-member : (t : ℕ) → member t w ≡ true → committed log t ≡ true
-  unfolding serial once-each
-  of-member t m = and→ (all→ _ w (and→ (and→ ser .0) .1) t m) .1
+  of-member = serial-committed log well w ser
 
   is-member : (t : ℕ) → committed log t ≡ true → member t w ≡ true
-  unfolding serial once-each
-  is-member t c = implies→ (every→ _ (and→ ser .1) t (omega (arith, committed-range log well t c .1))) c
+  is-member = serial-member log well w ser
 
   -- a judged read, taken apart
   pub record Read (i : ℕ) : Type 0 where

@@ -83,9 +83,9 @@ pub zero-not : (handed-in : List ℕ) (i : ℕ) → i < length handed-in → (ge
 unfolding all
 zero-not handed-in i h n = ap (all (λ t. t is 0)) (drop-cons handed-in i 0 h) ∙ and-no-left _ (→isnt n)
 
-pub zero-all : (handed-in : List ℕ) (i : ℕ) → i ≡ length handed-in → all (λ t. t is 0) (drop i handed-in) ≡ true
+pub zero-all : (handed-in : List ℕ) (i : ℕ) → length handed-in ≤ i → all (λ t. t is 0) (drop i handed-in) ≡ true
 unfolding all
-zero-all handed-in i e = let le : length handed-in ≤ i = omega arith in ap (all (λ t. t is 0)) (drop-of-length-le handed-in le)
+zero-all handed-in i le = ap (all (λ t. t is 0)) (drop-of-length-le handed-in le)
 
 -- 14, from the answers to the questions that decide it
 module _ (log handed-in : List ℕ) where

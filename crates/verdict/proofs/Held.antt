@@ -36,22 +36,22 @@ use Rattle.verdict.proofs.Bounds.{once-few}
 use Rattle.verdict.proofs.HandedIn.{stops, goes, starts, passes}
 
 -- MEMBERS, NONE OF THEM 0, AND ZEROS BEHIND
-abbrev NoZero : List ℕ → Type 0
+abbrev pub NoZero : List ℕ → Type 0
 NoZero w = (t : ℕ) → member t w ≡ true → t ≡ 0 → ⊥
 
-front-held : (w : List ℕ) (k : ℕ) → NoZero w → up-to-zero (w ++ zeros k) ≡ w
+pub front-held : (w : List ℕ) (k : ℕ) → NoZero w → up-to-zero (w ++ zeros k) ≡ w
 unfolding zeros
 front-held [] zero f = unfold up-to-zero in refl
 front-held [] (suc k) f = stops 0 (zeros k) refl
 front-held (t ∷ w) k f = goes t (w ++ zeros k) (f t (member-head t w)) ∙ ap (λ (l : List ℕ). t ∷ l) (front-held w k (λ u m. f u (member-tail u t w m)))
 
-back-held : (w : List ℕ) (k : ℕ) → NoZero w → from-zero (w ++ zeros k) ≡ zeros k
+pub back-held : (w : List ℕ) (k : ℕ) → NoZero w → from-zero (w ++ zeros k) ≡ zeros k
 unfolding zeros
 back-held [] zero f = unfold from-zero in refl
 back-held [] (suc k) f = starts 0 (zeros k) refl
 back-held (t ∷ w) k f = passes t (w ++ zeros k) (f t (member-head t w)) ∙ back-held w k (λ u m. f u (member-tail u t w m))
 
-all-zero : (k : ℕ) → all (λ t. t is 0) (zeros k) ≡ true
+pub all-zero : (k : ℕ) → all (λ t. t is 0) (zeros k) ≡ true
 unfolding all zeros
 all-zero zero = refl
 all-zero (suc k) = →and (→is refl) (all-zero k)

@@ -30,6 +30,7 @@ pub mod Dependencies
 pub mod ConflictGraph
 pub mod Replayed
 pub mod Counted
+pub mod Serial
 pub mod Center
 pub mod Computed
 pub mod VersionGraph

@@ -44,7 +44,7 @@ use Rattle.verdict.proofs.Computed.{version-ends, orders, orders-listed
 use Rattle.verdict.proofs.Some.{version-some}
 use Rattle.verdict.proofs.Held.{call-order, call-none, call-cycle, call-unclean, read-back, handed-length, handed-passed, taken-off}
 
-explains→ : (most : ℕ) (log w : List ℕ) → explains most log w ≡ true → (is-clean log ≡ true) × (serial most log w ≡ true)
+pub explains→ : (most : ℕ) (log w : List ℕ) → explains most log w ≡ true → (is-clean log ≡ true) × (serial most log w ≡ true)
 unfolding explains explains-loosely
 explains→ most log w h = and→ (and→ (and→ h .0) .0)
 

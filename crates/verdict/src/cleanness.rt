@@ -18,7 +18,7 @@ ghost use lib.ListN.{length};
 ghost use Rattle.words.specs.Tests.{lowest};
 ghost use Rattle.verdict.specs.Log.{steps};
 ghost use Rattle.verdict.specs.Refusal.{log-refusal};
-ghost use Rattle.verdict.specs.Clean.{own-fault, source-fault, cleanness};
+ghost use Rattle.verdict.specs.Clean.{fault-step, own-fault, source-fault, cleanness};
 ghost use Rattle.verdict.specs.Call.{CleanCall};
 ghost use Rattle.verdict.specs.Inner.Marks.{Committed};
 ghost use Rattle.verdict.specs.Inner.WriteTable.{WritesFrom};
@@ -111,5 +111,16 @@ pub fn clean(log: &[u16], work: &mut [u8]) -> CleanAnswer
             let part = admitted.part;
             CleanAnswer::Judged(judge_clean(log, &part, admitted.own))
         }
+    }
+}
+
+// The step of a fault.
+pub fn fault_step(fault: Fault) -> usize
+    ensures { λ r. ⌜ r ≡ fault-step fault ⌝ }
+{
+    match fault {
+        Fault::Own(k) => k,
+        Fault::Aborted(k) => k,
+        Fault::Unfinal(k) => k,
     }
 }

@@ -17,8 +17,7 @@ use crate::tables::next_writers;
 use crate::version_graph::draw;
 ghost use mathlib.Core.Path.{_≡_};
 ghost use mathlib.Core.Bool.{true};
-ghost use Prim.Native.Nat.{_≤_};
-ghost use lib.ListN.{length, drop};
+ghost use lib.ListN.{drop};
 ghost use Rattle.words.specs.Tests.{_is_, fails};
 ghost use Rattle.words.specs.Lists.{all};
 ghost use Rattle.graph.specs.Matrix.{matrix-order};
@@ -55,8 +54,7 @@ fn count_members(order: &[u16]) -> usize
 }
 
 // Whether all numbers from place k on are 0.
-fn all_zero(order: &[u16], k: usize) -> bool
-    requires { ⌜ k ≤ length (now order) ⌝ }
+pub fn all_zero(order: &[u16], k: usize) -> bool
     ensures { λ r. ⌜ r ≡ all (λ t. t is 0) (drop k (now (order .entry))) ⌝ }
 {
     let mut i = k;

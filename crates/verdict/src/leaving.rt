@@ -12,7 +12,7 @@ ghost use Rattle.verdict.specs.Limits.{witness-buffer};
 ghost use Rattle.verdict.specs.Inner.Leaving.{Leaves};
 
 // All bytes of the work area become 0.
-pub(crate) fn clear(work: &mut [u8])
+pub fn clear(work: &mut [u8])
     ensures { λ _. ⌜ now (work .exit) ≡ zeros (length (now (work .entry))) ⌝ }
 {
     for i in 0..work.len() {

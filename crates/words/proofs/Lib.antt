@@ -3,6 +3,7 @@ pub mod Truth
 pub mod Counting
 pub mod Places
 pub mod Entries
+pub mod Stored
 pub mod Dictionary
 pub mod Search
 pub mod Pigeon

@@ -87,7 +87,7 @@ fn serial_snapshot(rng: &mut Rng) -> Draft {
 }
 
 /// All begin, the steps are taken, all commit.
-fn enclose(rng: &mut Rng, numbers: &[u16], steps: Vec<Numbers>) -> Draft {
+pub fn enclose(rng: &mut Rng, numbers: &[u16], steps: Vec<Numbers>) -> Draft {
     let mut numbers = numbers.to_vec();
     rng.shuffle(&mut numbers);
     let mut draft = Draft::default();

@@ -31,7 +31,7 @@ fn made_texts() {
             let texts = (1..=COUNT).map(|index| sort.text(seed, index));
             let accepted = texts.filter(|text| comes_back(text)).count();
             match sort {
-                Sort::Small => assert_eq!(accepted, COUNT),
+                Sort::Small | Sort::Tangled => assert_eq!(accepted, COUNT),
                 Sort::Damaged | Sort::Live => assert!(accepted < COUNT / 4),
                 Sort::Texts => assert!((COUNT / 20..COUNT / 2).contains(&accepted)),
                 Sort::Limits => assert!((COUNT / 2..COUNT).contains(&accepted)),

@@ -1,5 +1,5 @@
 -- `copy_step` meets its contract: four stores, one after another.
-use Rattle.keep.proofs.Keeping.{four-stored}
+use Rattle.words.proofs.Stored.{four-stored}
 use Rattle.keep.specs.Kept.{step}
 use Rattle.verdict.specs.Log.{kind, tx, obj, src}
 use lib.ListN.{length-set}

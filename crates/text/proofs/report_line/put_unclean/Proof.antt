@@ -10,18 +10,18 @@ use Rattle.text.proofs.report_line.put_unclean.Statement.{statement}
 use Rattle.text.proofs.report_line.put_unclean.Tie as tie
 
 -- the entry, from where the step is known
-abbrev entry : tie.After-step-of → tie.Start
+abbrev entry : tie.After-fault-step → tie.Start
 entry c = c .before .before .before .before
 
 slice-aggregate-put-number : tie.Need-slice-aggregate-put-number
 slice-aggregate-put-number c = search needs
 
-step-of-requires : tie.Need-step-of-requires
-step-of-requires c κs = search needs
+fault-step-requires : tie.Need-fault-step-requires
+fault-step-requires c κs = search needs
 
 put-number-requires : tie.Need-put-number-requires
 unfolding bytes
-put-number-requires c κs = let s = entry c in known-fits (λ (n : ℕ). bytes "unclean at " ++ decimal n) (sym (c .step-of .ensures)) (s .args .out .now) (s .args .at) (s .pre)
+put-number-requires c κs = let s = entry c in known-fits (λ (n : ℕ). bytes "unclean at " ++ decimal n) (sym (c .fault-step .ensures)) (s .args .out .now) (s .args .at) (s .pre)
 
 same-length : tie.Need-same-length
 same-length c = search needs
@@ -32,7 +32,7 @@ returns c =
     let p = c .before .before in
     let d = p .before in
     let s = entry d in
-    known-puts (λ (n : ℕ). bytes "unclean at " ++ decimal n) (sym (d .step-of .ensures)) (s .args .out .now) (s .args .at) (p .put-number .ensures)
+    known-puts (λ (n : ℕ). bytes "unclean at " ++ decimal n) (sym (d .fault-step .ensures)) (s .args .out .now) (s .args .at) (p .put-number .ensures)
 
 pub put-unclean-spec : {M : Type 1} → statement M
-put-unclean-spec = tie.close (tie.spec slice-aggregate-put-number step-of-requires put-number-requires same-length returns)
+put-unclean-spec = tie.close (tie.spec slice-aggregate-put-number fault-step-requires put-number-requires same-length returns)

@@ -1,6 +1,6 @@
 -- `all_zero` meets its contract.
 use mathlib.Core.Path.{_≡_, refl, sym, _∙_}
-use Prim.Native.Nat.{_-_, _≤_}
+use Prim.Native.Nat.{_-_}
 use native.Mathlib.Omega.{arith}
 use lib.ListN.{length, drop}
 use Rattle.words.specs.Tests.{_is_}
@@ -10,13 +10,13 @@ use Rattle.verdict.proofs.following.all_zero.Statement.{statement}
 use Rattle.verdict.proofs.following.all_zero.Tie as tie
 
 abbrev Inv-loop : tie.InvT-loop
-Inv-loop order k i₀ i = (k ≤ i) × (i ≤ length order) × (all (λ t. t is 0) (drop k order) ≡ all (λ t. t is 0) (drop i order))
+Inv-loop order k i₀ i = all (λ t. t is 0) (drop k order) ≡ all (λ t. t is 0) (drop i order)
 
 abbrev μ-loop : tie.MeasureT-loop
 μ-loop order k i₀ i = length order - i
 
 loop-holds : tie.Need-loop-holds Inv-loop μ-loop
-loop-holds c = (omega arith, c .pre, refl)
+loop-holds c = refl
 
 mul-if1 : tie.Need-mul-if1 Inv-loop μ-loop
 mul-if1 c = omega arith
@@ -25,7 +25,7 @@ shared-slice-read-if1 : tie.Need-shared-slice-read-if1 Inv-loop μ-loop
 shared-slice-read-if1 c = omega arith
 
 returns : tie.Need-returns Inv-loop μ-loop
-returns c = let at = c .before .before .before in sym (at .loop .inv .2 ∙ zero-not (at .before .args .order .now) (at .loop .i) (omega arith) (c .if1 .taken))
+returns c = let at = c .before .before .before in sym (at .loop .inv ∙ zero-not (at .before .args .order .now) (at .loop .i) (omega arith) (c .if1 .taken))
 
 add-i : tie.Need-add-i Inv-loop μ-loop
 add-i c = omega arith
@@ -34,10 +34,10 @@ loop-less : tie.Need-loop-less Inv-loop μ-loop
 loop-less c = omega arith
 
 loop-again : tie.Need-loop-again Inv-loop μ-loop
-loop-again c = let at = c .before .before .before in (omega arith, omega arith, at .loop .inv .2 ∙ zero-more (at .before .args .order .now) (at .loop .i) (omega arith) (c .if1 .left))
+loop-again c = let at = c .before .before .before in at .loop .inv ∙ zero-more (at .before .args .order .now) (at .loop .i) (omega arith) (c .if1 .left)
 
 returns-2 : tie.Need-returns-2 Inv-loop μ-loop
-returns-2 c = sym (c .before .loop .inv .2 ∙ zero-all (c .before .before .args .order .now) (c .before .loop .i) (omega arith))
+returns-2 c = sym (c .before .loop .inv ∙ zero-all (c .before .before .args .order .now) (c .before .loop .i) (omega arith))
 
 pub all-zero-spec : {M : Type 1} → statement M
 all-zero-spec =

@@ -1,9 +1,9 @@
--- `step_of` meets its contract.
+-- `fault_step` meets its contract.
 use borrow.Author.Needs.{needs}
 use mathlib.Core.Path.{sym, ap}
 use Rattle.verdict.specs.Clean.{fault-step}
-use Rattle.text.proofs.report_line.step_of.Statement.{statement}
-use Rattle.text.proofs.report_line.step_of.Tie as tie
+use Rattle.verdict.proofs.cleanness.fault_step.Statement.{statement}
+use Rattle.verdict.proofs.cleanness.fault_step.Tie as tie
 
 enum-known-fault : tie.Need-enum-known-fault
 enum-known-fault c = search needs
@@ -26,7 +26,7 @@ returns-3 : tie.Need-returns-3
 unfolding fault-step
 returns-3 c = sym (ap fault-step (c .before .fault3 .given .1))
 
-pub step-of-spec : {M : Type 1} → statement M
-step-of-spec =
+pub fault-step-spec : {M : Type 1} → statement M
+fault-step-spec =
     tie.close
     (tie.spec enum-known-fault enum-known-fault-2 enum-known-fault-3 returns returns-2 returns-3)

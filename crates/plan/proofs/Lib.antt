@@ -1,0 +1,22 @@
+-- Laws of the definitions, and the theorems over them.
+pub mod MarkLaws
+pub mod WhoCommitted
+pub mod Rising
+pub mod Named
+pub mod Proposals
+pub mod Sparing
+pub mod ChangedLog
+pub mod CleanReads
+pub mod Explained
+pub mod Trying
+pub mod Calling
+pub mod Passing
+pub mod Restricted
+pub mod Inside
+pub mod Choice
+pub mod Waiting
+pub mod AllBack
+pub mod Plans
+pub mod Few
+pub mod ByCalls
+pub mod Nothing
