@@ -10,8 +10,11 @@ use Rattle.plan.proofs.Calling.{refused-early, all-passed, then-tried, 
 use Rattle.plan.proofs.judging.accepts.Statement.{statement}
 use Rattle.plan.proofs.judging.accepts.Tie as tie
 
--- no number but 19 turns the call away
-passed : (c : tie.After-enum-told) → let a = c .before .before .before .before .before .before .args in
+-- the entry, from where no number but 19 can turn the call away
+abbrev entry : tie.After-enum-told → tie.Start
+entry c = c .before .before .before .before .before .before
+
+passed : (c : tie.After-enum-told) → let a = entry c .args in
     (work-refusal (a .work .now) ≡ Passed) × (length-refusal (a .proposal .now) ≡ Passed) × (log-refusal (a .log .now) ≡ Passed)
 unfolding work-refusal length-refusal
 passed c = all-passed _ _ _ Passed (c .before .before .admit .ensures) (c .enum-told .given .1)
@@ -61,7 +64,7 @@ returns-3 c = let cleared = c .before .before .before in
     let known = cleared .before .before in
     let members = known .before .before .before in
     let told = members .before in
-    let start = told .before .before .before .before .before .before in
+    let start = entry told in
     let found = proposal-taken (members .admit-members .ensures) (known .enum-told2 .given .1) in
     answered (c .will-do .result) (then-tried _ _ _ _ (told .before .before .admit .ensures) (told .enum-told .given .1) (found .0)) (judged-proposal (members .admit-members .result .marks) (found .2) (c .will-do .ensures)) refl
     (work-left _ (start .args .work .now) _ (passed told .0) (cleared .clear .ensures))

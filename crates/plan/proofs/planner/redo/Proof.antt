@@ -10,8 +10,12 @@ use borrow.Author.Needs.{needs}
 use Rattle.plan.proofs.planner.redo.Statement.{statement}
 use Rattle.plan.proofs.planner.redo.Tie as tie
 
+-- the entry, from where the call is taken
+abbrev entry : tie.After-enum-told → tie.Start
+entry c = c .before .before .before .before .before .before
+
 -- nothing turns the call away
-passed : (c : tie.After-enum-told) → let a = c .before .before .before .before .before .before .args in
+passed : (c : tie.After-enum-told) → let a = entry c .args in
     (work-refusal (a .work .now) ≡ Passed) × (length-refusal (a .proposal .now) ≡ Passed) × (log-refusal (a .log .now) ≡ Passed)
 unfolding work-refusal length-refusal
 passed c = all-passed _ _ _ Passed (c .before .before .admit .ensures) (c .enum-told .given .1)
@@ -41,7 +45,7 @@ clear-proposal-requires c κs = search needs
 lay-members-requires : tie.Need-lay-members-requires
 lay-members-requires c κs = let cleared = c .before .before .before .before in
     let planned = plan-of cleared in
-    let start = planned .before .before .before .before .before .before .before in
+    let start = entry (planned .before) in
     (planned .to-redo .ensures .size, planned .to-redo .ensures .none-0, cleared .clear-proposal .ensures ∙ ap zeros (proposal-length (start .args .proposal .now) (passed (planned .before) .1)))
 
 returns : tie.Need-returns
