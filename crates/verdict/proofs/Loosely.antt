@@ -8,13 +8,16 @@ use native.Mathlib.Omega.{arith}
 use native.Mathlib.Numerals.{add-one}
 use lib.ListN.{length, getD, set, take}
 use lib.Seq.{take-suc-set}
-use Rattle.words.specs.Tests.{_is_, _below_, _and_, _or_, _implies_, if_then_else_, every}
+use Rattle.words.specs.Tests.{_is_, _below_, _and_, _or_, _implies_, if_then_else_, every, lowest}
 use Rattle.words.specs.Lists.{member, distinct}
 use Rattle.words.specs.First.{dictionary, First, Never}
 use Rattle.graph.specs.Order.{once-each}
-use Rattle.words.proofs.Truth.{decide, not-both, to-false, and→, →and, and-true-right, and-no-left, and-no-right, →or-left, →or-right, or-false, →fails, implies→, →implies, is→, →is, isnt→, →isnt, below→, →below, not-below→, if-true, if-false, every→, →every}
+use Rattle.words.proofs.Truth.{decide, not-both, to-false, and→, →and, and-true-right, and-no-left, and-no-right, →or-left, →or-right, or-false, →fails, implies→, →implies, is→, →is, isnt→, →isnt, below→, →below, not-below→, if-true, if-false, every→, →every, below-lowest}
 use Rattle.words.proofs.Places.{member→, member-head, member-tail, all→, →all, distinct→, member-right, member-either}
 use Rattle.words.proofs.Dictionary.{dictionary-not}
+use Rattle.bits.specs.Word.{marked, less}
+use Rattle.bits.proofs.Marks.{marked-less}
+use Rattle.bits.proofs.Walks.{unturned}
 use Rattle.verdict.specs.Limits.{transactions, objects}
 use Rattle.verdict.specs.Log.{steps, tx, obj, src, committed, writer}
 use Rattle.verdict.specs.Clean.{judged, judged-other, is-clean}
@@ -277,22 +280,26 @@ module _ (passes : List ℕ → Bool) (not-empty : passes [] ≡ false) where
   no-head f (a ∷ v) = f a v
 
 -- THE LIST OF THE COMMITTED ONES
--- nothing goes on behind p but what the list has from i on
-pub record Tried (log p ones : List ℕ) (n i : ℕ) : Type 0 where
-  pub never : (d : ℕ) → ((k : ℕ) → i ≤ k → k < n → getD ones k 0 ≡ d → ⊥) → Never (λ v. explains-loosely transactions log (p ++ d ∷ v))
+-- nothing goes on behind p but what the rest of the list has: some of its places that are free
+pub record Tried (log p ones : List ℕ) (free rest : ℕ) : Type 0 where
+  pub part : (k : ℕ) → marked rest k ≡ true → marked free k ≡ true
+  pub never : (d : ℕ) → ((k : ℕ) → marked rest k ≡ true → getD ones k 0 ≡ d → ⊥) → Never (λ v. explains-loosely transactions log (p ++ d ∷ v))
 
-module _ (log : List ℕ) {p ones : List ℕ} {n i : ℕ} (tried : Tried log p ones n i) where
+module _ (log : List ℕ) {p ones : List ℕ} {free rest : ℕ} (tried : Tried log p ones free rest) (i : ℕ) where
   -- nor does the one at i
-  pub tried-more : Never (λ v. explains-loosely transactions log (p ++ getD ones i 0 ∷ v)) → Tried log p ones n (i + 1)
-  tried-more h = record { never = λ d f. go d f (decide (getD ones i 0 is d)) }
+  pub tried-more : Never (λ v. explains-loosely transactions log (p ++ getD ones i 0 ∷ v)) → Tried log p ones free (less rest i)
+  tried-more h = record { part = λ k m. tried .part k (and→ (sym (marked-less rest i k) ∙ m) .0); never = λ d f. go d f (decide (getD ones i 0 is d)) }
     where
-      go : (d : ℕ) → ((k : ℕ) → i + 1 ≤ k → k < n → getD ones k 0 ≡ d → ⊥) → ((getD ones i 0 is d) ≡ true) ⊎ ((getD ones i 0 is d) ≡ false) → Never (λ v. explains-loosely transactions log (p ++ d ∷ v))
+      go : (d : ℕ) → ((k : ℕ) → marked (less rest i) k ≡ true → getD ones k 0 ≡ d → ⊥) → ((getD ones i 0 is d) ≡ true) ⊎ ((getD ones i 0 is d) ≡ false) → Never (λ v. explains-loosely transactions log (p ++ d ∷ v))
       go d f (inl e) = let z : getD ones i 0 ≡ d = is→ e in subst (λ (a : ℕ). Never (λ v. explains-loosely transactions log (p ++ a ∷ v))) z h
-      go d f (inr e) = tried .never d (λ k l m q. ⊎-elim (λ (b : (i below k) ≡ true). f k (omega (arith, below→ b)) m q) (λ (b : (i below k) ≡ false). let z : k ≡ i = omega (arith, not-below→ b) in isnt→ e (rw z at q)) (decide (i below k)))
+      go d f (inr e) = tried .never d (λ k m q. ⊎-elim (λ (b : (k is i) ≡ true). let z : k ≡ i = is→ b in isnt→ e (rw z at q)) (λ (b : (k is i) ≡ false). f k (unturned rest i k b ∙ m) q) (decide (k is i)))
 
-  -- none that is lower than the one at i goes on
-  pub tried-below : CommittedList log ones n → i < n → (a : ℕ) → a < getD ones i 0 → Never (λ v. explains-loosely transactions log (p ++ a ∷ v))
-  tried-below list l a h = tried .never a later
+  -- none that is lower than the one at i goes on, where i is the first place of the rest
+  pub tried-below : {n : ℕ} → CommittedList log ones n → ((k : ℕ) → marked free k ≡ true → k < n) → i ≡ lowest 64 (marked rest) → (a : ℕ) → a < getD ones i 0 → Never (λ v. explains-loosely transactions log (p ++ a ∷ v))
+  tried-below {n} list within first a h = tried .never a later
     where
-      later : (k : ℕ) → i ≤ k → k < n → getD ones k 0 ≡ a → ⊥
-      later k m b q = ⊎-elim (λ (e : (i below k) ≡ true). omega (arith, list .rising i k (below→ e) b)) (λ (e : (i below k) ≡ false). let z : k ≡ i = omega (arith, not-below→ e) in let w : getD ones i 0 ≡ a = rw z at q in omega arith) (decide (i below k))
+      later : (k : ℕ) → marked rest k ≡ true → getD ones k 0 ≡ a → ⊥
+      later k m q =
+          ⊎-elim (λ (e : (i below k) ≡ true). omega (arith, list .rising i k (below→ e) (within k (tried .part k m))))
+          (λ (e : (i below k) ≡ false). ⊎-elim (λ (b : (k below i) ≡ true). not-both m (below-lowest 64 (marked rest) k (omega (arith, below→ b))))
+          (λ (b : (k below i) ≡ false). let z : k ≡ i = omega (arith, not-below→ e, not-below→ b) in let w : getD ones i 0 ≡ a = rw z at q in omega arith) (decide (k below i))) (decide (i below k))

@@ -3,10 +3,11 @@ use mathlib.Core.Path.{_≡_, refl, sym, ap, subst, _∙_}
 use mathlib.Core.Bool.{Bool, true, false, false≢true}
 use mathlib.Core.Logic.{_⊎_, inl, inr}
 use mathlib.Core.List.{List, []}
-use Prim.Native.Nat.{ℕ, zero, suc, _≤_, _<_}
+use Prim.Native.Nat.{ℕ, zero, suc, _-_, _*_, _%_, _^_, _≤_, _<_}
+use native.Mathlib.Nat.{one-mul}
 use native.Mathlib.Omega.{arith}
 use lib.ListN.{take, replicate, length-replicate, getD-replicate}
-use lib.Pow.{pow-pos}
+use lib.Pow.{shl-exact}
 use Rattle.words.specs.Tests.{_below_, count}
 use Rattle.words.specs.Lists.{member, all, distinct, zeros, entries}
 use Rattle.words.specs.First.{dictionary, First}
@@ -14,9 +15,9 @@ use Rattle.verdict.specs.Reason.{without-reasons}
 use Rattle.verdict.specs.Outcome.{order, none, said, members}
 use Rattle.verdict.specs.Witness.{in-threes, witness}
 use Rattle.verdict.specs.Judgement.{Holds}
-use Rattle.words.proofs.Truth.{decide, →fails, →below, →not-below, not-below→, if-true}
+use Rattle.words.proofs.Truth.{decide, →fails, below→, →below, →not-below, not-below→, if-true}
 use Rattle.bits.specs.Word.{marked}
-use Rattle.bits.proofs.Marks.{mark-not, no-mark}
+use Rattle.bits.proofs.Marks.{mark-below}
 use Rattle.verdict.specs.Limits.{transactions, witness-buffer, most-searched}
 use Rattle.verdict.specs.Log.{committed-count}
 use Rattle.verdict.specs.declared.answers.Checked.the-variants.{Passed, Refused}
@@ -44,18 +45,19 @@ unfolding count
 all-counted zero p f = refl
 all-counted (suc n) p f = if-true _ _ (f n (omega arith)) ∙ ap suc (all-counted n p (λ (i : ℕ) (h : i < n). f i (omega arith)))
 
--- at first nothing is placed, and each place of the list is marked
-pub nothing-placed : (log ones : List ℕ) {n : ℕ} → n ≤ most-searched → Placed log ones n (record { free = 255; placed = replicate 8 0; at = 0 }) (replicate 64 0)
+-- at first nothing is placed, and each of the n places of the list is marked
+pub nothing-placed : (log ones : List ℕ) {n : ℕ} → n ≤ most-searched → Placed log ones n (record { free = (1 * 2 ^ n) % 2 ^ 64 - 1; at = 0 }) (replicate 8 0) (replicate 64 0)
 unfolding distinct all ran
 nothing-placed log ones {n} few =
     record {
       so-far = record { different = refl; members = refl; right = λ i h j k. absurd (false≢true (unfold member in k)); size = length-replicate {A = ℕ} 64 0; writers = λ x h. getD-replicate 64 x 0 0 h };
-      left = λ i h. every-place i (omega arith) ∙ sym (→fails (unfold member in refl));
-      fills = omega (arith, all-counted n (marked 255) (λ i h. every-place i (omega arith)));
+      left = λ i h. places i ∙ →below h ∙ sym (→fails (unfold member in refl));
+      within = λ i m. below→ (sym (places i) ∙ m);
+      fills = omega (arith, all-counted n (marked ((1 * 2 ^ n) % 2 ^ 64 - 1)) (λ i h. places i ∙ →below h));
     }
   where
-    every-place : (i : ℕ) → i < 8 → marked 255 i ≡ true
-    every-place i h = mark-not 8 0 i (pow-pos 8) h ∙ →fails (no-mark i)
+    places : (i : ℕ) → marked ((1 * 2 ^ n) % 2 ^ 64 - 1) i ≡ (i below n)
+    places i = ap (λ (m : ℕ). marked (m - 1) i) (shl-exact 1 n 64 (omega arith) (omega arith) ∙ one-mul (2 ^ n)) ∙ mark-below n i
 
 -- nobody committed: the empty order is the only one
 pub nobody-placed : {log ones : List ℕ} → log-refusal log ≡ Passed → is-clean log ≡ true → CommittedList log ones 0 → {r : Witnessed} → (r .answer ≡ Order 0) × (r .list ≡ zeros witness-buffer) → Holds (Exact transactions log) r

@@ -54,9 +54,6 @@ fn with_source(e: u16, s: u16) -> u16
     255
 }
 
-// A mark for each place of the list of the committed transactions.
-const EVERY_PLACE: u64 = 255;
-
 // The committed transactions, the lowest first, and how many they are.
 struct Roster {
     list: [u16; Transaction::SEARCHED],
@@ -103,13 +100,13 @@ fn need_table(log: &[u16], part: &[u64; graph::WORDS]) -> [u16; Transaction::PAI
 }
 
 // Whether the need allows v as last writer.
-fn allows(e: u16, v: u16) -> bool
+fn allows(e: u16, v: u8) -> bool
     ensures { λ r. ⌜ r ≡ allows e v ⌝ }
 {
     if e == 0 {
         return true;
     }
-    e - 1 == v
+    e - 1 == v as u16
 }
 
 // The objects of which t needs to find something.
@@ -148,7 +145,7 @@ fn all_needed(
 }
 
 // Whether what is last written of each object is what t needs to find, by the objects of which it needs something.
-fn fits(need: &[u16; Transaction::PAIRS], marks: u64, last: &[u16; Object::TABLE], t: u16) -> bool
+fn fits(need: &[u16; Transaction::PAIRS], marks: u64, last: &[u8; Object::TABLE], t: u16) -> bool
     requires { ⌜ (t ≤ transactions) × NeededOf (now need) t marks ⌝ }
     ensures { λ r. ⌜ r ≡ every objects (λ x. allows (getD (now (need .entry)) (t * objects + x) 0) (getD (now (last .entry)) x 0)) ⌝ }
 {
@@ -164,50 +161,39 @@ fn fits(need: &[u16; Transaction::PAIRS], marks: u64, last: &[u16; Object::TABLE
     true
 }
 
-// Where a search stands: the places of the list that are left, as marks, and the order, of which the first `at` are placed.
+// Where a search stands: the places of the list that are left, as marks, and how many are placed.
 struct Run {
     free: u64,
-    placed: [u16; Transaction::SEARCHED],
     at: usize,
 }
 
-// Whether the one at place i of the list is left and would find what it needs, by the last writer of each object.
+// Whether the one at place i of the list would find what it needs, by the last writer of each object.
 fn may_follow(
     need: &[u16; Transaction::PAIRS],
     ones: &[u16; Transaction::SEARCHED],
     asks: &[u64; Transaction::SEARCHED],
-    run: Run,
-    last: &[u16; Object::TABLE],
+    last: &[u8; Object::TABLE],
     i: usize,
 ) -> bool
     requires { ⌜ (i < most-searched) × (getD (now ones) i 0 ≤ transactions) × NeededOf (now need) (getD (now ones) i 0) (getD (now asks) i 0) ⌝ }
-    ensures { λ r. ⌜ r ≡ may-follow (now (need .entry)) (now (ones .entry)) run (now (last .entry)) i ⌝ }
+    ensures { λ r. ⌜ r ≡ may-follow (now (need .entry)) (now (ones .entry)) (now (last .entry)) i ⌝ }
 {
-    if !bits::has_mark(run.free, i) {
-        return false;
-    }
     fits(need, asks[i], last, ones[i])
 }
 
 // The run with the one at place i of the list placed next.
-fn with_placed(ones: &[u16; Transaction::SEARCHED], run: Run, i: usize) -> Run
-    requires { ⌜ (i < most-searched) × (run .at < most-searched) ⌝ }
-    ensures { λ r. ⌜ OneMore (getD (now (ones .entry)) i 0) i run r ⌝ }
+fn with_placed(run: Run, i: usize) -> Run
+    requires { ⌜ run .at < most-searched ⌝ }
+    ensures { λ r. ⌜ OneMore i run r ⌝ }
 {
     let at = run.at;
     let free = bits::without_mark(run.free, i);
-    let mut placed = run.placed;
-    placed[at] = ones[i];
-    Run {
-        free,
-        placed,
-        at: at + 1,
-    }
+    Run { free, at: at + 1 }
 }
 
 // The last writer of each object becomes the one at place i of the list, where that one writes it.
 fn note_last(
-    last: &mut [u16; Object::TABLE],
+    last: &mut [u8; Object::TABLE],
     writes: &[u64; Transaction::TABLE],
     ones: &[u16; Transaction::SEARCHED],
     i: usize,
@@ -216,7 +202,13 @@ fn note_last(
     ensures { λ _. ⌜ LastAfter (now (writes .entry)) (getD (now (ones .entry)) i 0) (now (last .entry)) (now (last .exit)) ⌝ }
 {
     let t = ones[i];
-    bits::put_marked(last, writes[index(t)], t);
+    let writer = t as u8;
+    let mut left = writes[index(t)];
+    while bits::any_mark(left) {
+        let x = bits::lowest_mark(left);
+        last[x] = writer;
+        left = bits::without_mark(left, x);
+    }
 }
 
 // What a search finds: whether there is an order, and the order.
@@ -225,7 +217,8 @@ struct Search {
     order: [u16; Transaction::SEARCHED],
 }
 
-// The first order of the n on the list that explains loosely and begins with what is placed.
+// The first order of the n on the list that explains loosely and begins with what is placed. The array of those placed stands beside the run, since a
+// struct is copied as a whole where one is added to it.
 fn place(
     log: &[u16],
     need: &[u16; Transaction::PAIRS],
@@ -233,30 +226,34 @@ fn place(
     ones: &[u16; Transaction::SEARCHED],
     asks: &[u64; Transaction::SEARCHED],
     run: Run,
-    last: &[u16; Object::TABLE],
+    placed: [u16; Transaction::SEARCHED],
+    last: &[u8; Object::TABLE],
     n: usize,
 ) -> Search
-    requires { ⌜ Searchable (now log) (now need) (now writes) (now ones) (now asks) n × Placed (now log) (now ones) n run (now last) ⌝ }
-    ensures { λ r. ⌜ Searched (now (log .entry)) (placed-of run) n (r .found) (r .order) ⌝ }
+    requires { ⌜ Searchable (now log) (now need) (now writes) (now ones) (now asks) n × Placed (now log) (now ones) n run placed (now last) ⌝ }
+    ensures { λ r. ⌜ Searched (now (log .entry)) (placed-of run placed) n (r .found) (r .order) ⌝ }
 {
-    let mut i = 0;
-    while i < n {
-        if may_follow(need, ones, asks, run, last, i) {
-            let next = with_placed(ones, run, i);
+    let at = run.at;
+    let mut rest = run.free;
+    while bits::any_mark(rest) {
+        let i = bits::lowest_mark(rest);
+        if may_follow(need, ones, asks, last, i) {
+            let next = with_placed(run, i);
+            let mut more = placed;
+            more[at] = ones[i];
             let mut after = *last;
             note_last(&mut after, writes, ones, i);
-            let behind = place(log, need, writes, ones, asks, next, &after, n);
+            let behind = place(log, need, writes, ones, asks, next, more, &after, n);
             let found = behind.found;
             if found {
                 return behind;
             }
         }
-        i += 1;
+        rest = bits::without_mark(rest, i);
     }
-    let order = run.placed;
     Search {
-        found: run.at == n,
-        order,
+        found: at == n,
+        order: placed,
     }
 }
 
@@ -278,14 +275,14 @@ pub(crate) fn find_order(
     }
     let need = need_table(log, &part);
     let asks = all_needed(&need, &ones, left);
-    let last = [0u16; Object::TABLE];
+    let last = [0u8; Object::TABLE];
     let placed = [0u16; Transaction::SEARCHED];
+    let every_place: u64 = (1 << left) - 1;
     let run = Run {
-        free: EVERY_PLACE,
-        placed,
+        free: every_place,
         at: 0,
     };
-    let result = place(log, &need, writes, &ones, &asks, run, &last, left);
+    let result = place(log, &need, writes, &ones, &asks, run, placed, &last, left);
     let found = result.found;
     if !found {
         return without_members(Answer::None);

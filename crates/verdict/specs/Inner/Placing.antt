@@ -33,17 +33,16 @@ allows e v = e is 0 or e is suc v
 pub record NeededOf (need : List ℕ) (t marks : ℕ) : Type 0 where
   pub mark : (x : ℕ) → x < objects → marked marks x ≡ fails (getD need (t * objects + x) 0 is 0)
 
--- the one at place i of the list is left and would find what it needs, by the last writer of each object
-unfoldable pub may-follow : List ℕ → List ℕ → Run → List ℕ → ℕ → Bool
-may-follow need ones run last i = marked (run .free) i and every objects (λ x. allows (getD need (getD ones i 0 * objects + x) 0) (getD last x 0))
+-- the one at place i of the list would find what it needs, by the last writer of each object
+unfoldable pub may-follow : List ℕ → List ℕ → List ℕ → ℕ → Bool
+may-follow need ones last i = every objects (λ x. allows (getD need (getD ones i 0 * objects + x) 0) (getD last x 0))
 
 -- those that are placed
-abbrev pub placed-of : Run → List ℕ
-placed-of run = take (run .at) (run .placed)
+abbrev pub placed-of : Run → List ℕ → List ℕ
+placed-of run order = take (run .at) order
 
--- the run with t placed next, which stands at place i of the list
-pub record OneMore (t i : ℕ) (run next : Run) : Type 0 where
-  pub behind : placed-of next ≡ placed-of run ++ t ∷ []
+-- the run with the one at place i of the list placed next
+pub record OneMore (i : ℕ) (run next : Run) : Type 0 where
   pub more : next .at ≡ run .at + 1
   pub taken : next .free ≡ less (run .free) i
 
@@ -97,10 +96,11 @@ module _ (log : List ℕ) where
     pub size : length last ≡ objects
     pub writers : (x : ℕ) → x < objects → getD last x 0 ≡ ran x 0 p
 
-  -- .. and of the n on the list those are marked that are left
-  pub record Placed (ones : List ℕ) (n : ℕ) (run : Run) (last : List ℕ) : Type 0 where
-    pub so-far : Replayed (placed-of run) last
-    pub left : (i : ℕ) → i < n → marked (run .free) i ≡ fails (member (getD ones i 0) (placed-of run))
+  -- .. and of the n on the list those are marked that are left, and no others
+  pub record Placed (ones : List ℕ) (n : ℕ) (run : Run) (order last : List ℕ) : Type 0 where
+    pub so-far : Replayed (placed-of run order) last
+    pub left : (i : ℕ) → i < n → marked (run .free) i ≡ fails (member (getD ones i 0) (placed-of run order))
+    pub within : (i : ℕ) → marked (run .free) i ≡ true → i < n
     pub fills : run .at + count n (marked (run .free)) ≡ n
 
   -- what the search finds behind p: the first list with which p explains loosely, in the n entries of the array, or none

@@ -5,6 +5,7 @@ use native.Mathlib.Omega.{arith}
 use borrow.Author.Tests.{not-true, not-false}
 use lib.ListN.{length, take}
 use lib.Seq.{length-take-le}
+use Rattle.bits.proofs.Marks.{power-above}
 use Rattle.verdict.specs.Limits.{most-searched}
 use Rattle.verdict.proofs.Threes.{held}
 use Rattle.verdict.proofs.Memberless.{holds-none}
@@ -59,6 +60,12 @@ all-needed-requires c κs =
     let l = listed (c .before .before) in
     (few l, λ i h. committed-range _ (well-formed _ (entry l .pre .0)) _ (l .list-committed .ensures .each i h) .1)
 
+shl-every-place : tie.Need-shl-every-place
+shl-every-place c = omega (arith, few (listed (c .before .before .before)))
+
+sub-every-place : tie.Need-sub-every-place
+sub-every-place c = power-above _ (omega (arith, few (listed (c .before .before .before))))
+
 place-requires : tie.Need-place-requires
 place-requires c κs =
     let a = asked (c .before) in
@@ -102,6 +109,8 @@ find-order-spec =
     returns
     need-table-requires
     all-needed-requires
+    shl-every-place
+    sub-every-place
     place-requires
     without-members-requires-2
     returns-2

@@ -61,9 +61,6 @@ mul-allows c = let inv = head c .loop .inv in omega (arith, object c .0, inv .0,
 element-copy-out-allows : tie.Need-element-copy-out-allows Inv-loop μ-loop
 element-copy-out-allows c = let inv = head c .loop .inv in omega (arith, object c .0, inv .0, inv .1)
 
-mul-allows-2 : tie.Need-mul-allows-2 Inv-loop μ-loop
-mul-allows-2 c = omega (arith, object (c .before) .0)
-
 element-copy-out-allows-2 : tie.Need-element-copy-out-allows-2 Inv-loop μ-loop
 element-copy-out-allows-2 c = object (c .before) .0
 
@@ -106,7 +103,6 @@ fits-spec =
     add-allows
     mul-allows
     element-copy-out-allows
-    mul-allows-2
     element-copy-out-allows-2
     allows-requires
     returns
