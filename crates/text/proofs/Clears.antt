@@ -4,10 +4,10 @@ use native.Mathlib.Numerals.{add-one}
 use mathlib.Core.Path.{_≡_, refl, sym, ap, _∙_}
 use mathlib.Core.List.{List, [], _∷_, _++_, append-nil, append-assoc}
 use Prim.Native.Nat.{ℕ, suc, _+_, _-_, _≤_, _<_}
-use lib.ListN.{length, take, drop, set, replicate, replicate-append-replicate}
-use lib.Seq.{take-suc-set, take-all, take-at}
+use lib.ListN.{length, take, set, replicate, replicate-append-replicate}
+use lib.Seq.{take-suc-set, take-all}
 use Rattle.words.specs.Lists.{zeros, entries}
-use Rattle.text.specs.Inner.Put.{put-at, Puts}
+use Rattle.text.specs.Inner.Put.{Leads}
 
 -- the entries before `from` are as they were, and those from there to i are 0
 abbrev pub Cleared : (run₀ : List ℕ) (from : ℕ) (run : List ℕ) (i : ℕ) → Type 0
@@ -33,11 +33,10 @@ one-zero l v from i h k e =
 pub all-zeros : (l v : List ℕ) (from i : ℕ) → length v ≡ i → length l ≡ length v → take i l ≡ take from v ++ zeros (i - from) → l ≡ take from v ++ zeros (length v - from)
 all-zeros l v from i h k e = rw h (sym (take-all i l (omega arith)) ∙ e)
 
--- a buffer that is cleared behind what was put first in it
-pub cleared-behind : (n next : ℕ) (w l run run′ : List ℕ) → length run ≡ n → Puts w 0 l next run → run′ ≡ take next run ++ zeros (length run - next) → run′ ≡ entries n w
-unfolding put-at entries
+-- a buffer that is cleared behind what leads on from its first entry
+pub cleared-behind : (n next : ℕ) (w l run run′ : List ℕ) → length run ≡ n → Leads w 0 l next run → run′ ≡ take next run ++ zeros (length run - next) → run′ ≡ entries n w
+unfolding entries
 cleared-behind n next w l run run′ e p f =
-    let g : next ≡ length w = omega (arith, p .0) in
-    let h : take next run ≡ w = ap (take next) (p .1) ∙ take-at w (drop (0 + length w) l) next (sym g) in
+    let g : next ≡ length w = omega (arith, p .reaches) in
     let i : length run - next ≡ n - length w = omega arith in
-    f ∙ ap (λ (u : List ℕ). u ++ zeros (length run - next)) h ∙ ap (λ (m : ℕ). w ++ zeros m) i
+    f ∙ ap (λ (u : List ℕ). u ++ zeros (length run - next)) (p .front) ∙ ap (λ (m : ℕ). w ++ zeros m) i

@@ -8,6 +8,7 @@ pub mod Runs
 pub mod Compare
 pub mod ReasonWords
 pub mod Puts
+pub mod Readies
 pub mod Digits
 pub mod Clears
 pub mod Only

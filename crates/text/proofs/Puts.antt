@@ -33,7 +33,7 @@ pub puts-byte : (l : List ℕ) (at b : ℕ) → at < length l → Puts (b ∷ []
 puts-byte l at b h = (refl, put-one l at b h)
 
 -- what is put in leaves the length
-put-length : (v l : List ℕ) (at : ℕ) → Fits v at l → length (put-at at v l) ≡ length l
+pub put-length : (v l : List ℕ) (at : ℕ) → Fits v at l → length (put-at at v l) ≡ length l
 unfolding put-at
 put-length v l at h =
     length-append (take at l ++ v) (drop (at + length v) l)

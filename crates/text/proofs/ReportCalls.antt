@@ -12,6 +12,7 @@ use Rattle.text.specs.Inner.Put.{Puts}
 use Rattle.text.specs.Report.{ReportOf}
 use Rattle.text.specs.ReportCall.{report-bytes, report-refusal, said-length, leaves-report, ReportCall}
 use Rattle.text.specs.declared.TextAnswer.the-variants as text-answer
+use Rattle.text.proofs.Readies.{puts-lead}
 use Rattle.text.proofs.Clears.{cleared-behind}
 use Rattle.text.proofs.Room.{report-fits}
 
@@ -25,7 +26,7 @@ module _ (text out : List ℕ) where
   unfolding report-refusal said-length leaves-report
   reported w out₁ out′ next size r p e f =
       answered w (sym (when-no 12 0 (→not-fails (→is size)))) r (ap text-answer.Accepted (omega (arith, p .0)))
-      (ap (λ (u : List ℕ). u ∷ []) (cleared-behind report-bytes next w out out₁ out′ (e ∙ size) p f))
+      (ap (λ (u : List ℕ). u ∷ []) (cleared-behind report-bytes next w out out₁ out′ (e ∙ size) (puts-lead w out 0 (omega (arith, report-fits r)) p) f))
 
   -- the length that is answered is within the buffer for a report
   pub reported-length : {n : ℕ} {out′ : List ℕ} → ReportCall text out (text-answer.Accepted n) out′ → n ≤ report-bytes

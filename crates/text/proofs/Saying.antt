@@ -9,7 +9,7 @@ use native.Mathlib.Numerals.{add-one}
 use lib.ListN.{length, length-append}
 use Rattle.words.specs.Tests.{_is_, if_then_else_}
 use Rattle.words.proofs.Truth.{decide, →and, →upto, is→, isnt→}
-use Rattle.verdict.specs.Limits.{most-steps}
+use Rattle.verdict.specs.Limits.{transactions, objects, most-steps}
 use Rattle.verdict.specs.Log.{steps, kind, tx, obj, src}
 use Rattle.verdict.specs.Refusal.{log-refusal}
 use Rattle.verdict.specs.declared.answers.Checked.the-variants.{Passed}
@@ -19,7 +19,7 @@ use Rattle.text.specs.Decimal.{decimal}
 use Rattle.text.specs.Line.{word, item, header, op, line, has-word, sayable-step}
 use Rattle.text.specs.Text.{lines, text-of, Steps, no-step, a-step}
 use Rattle.text.specs.WriteCall.{text-bytes}
-use Rattle.text.specs.Inner.StepLine.{line-of}
+use Rattle.text.specs.Inner.StepLine.{line-of, Small}
 use Rattle.text.proofs.Fronts.{→sayable}
 use Rattle.text.proofs.Words.{Kind, begin, read, write, commit, abort, kind-of}
 use Rattle.text.proofs.Forms.{→step}
@@ -56,6 +56,17 @@ module _ (log : List ℕ) (well : log-refusal log ≡ Passed) (i : ℕ) (h : i <
   few-source =
       ⊎-elim (λ e. omega (arith, source-within log i (ranges log well i h) (is→ e))) (λ e. omega (arith, source-none log i (ranges log well i h) (isnt→ e)))
       (decide (kind log i is 2))
+
+  -- each has a place in the table of numbers
+  pub small : Small log i
+  small =
+      let t : tx log i ≤ transactions = tx-within log i (ranges log well i h) .1 in
+      let x : obj log i < objects = object-within log i (ranges log well i h) in
+      let s : src log i ≤ transactions =
+      ⊎-elim (λ e. source-within log i (ranges log well i h) (is→ e)) (λ e. omega (arith, source-none log i (ranges log well i h) (isnt→ e)))
+      (decide (kind log i is 2))
+      in
+      (omega arith, omega arith, omega arith)
 
   step-said : sayable-step (kind log i) (tx log i) (obj log i) (src log i) ≡ true
   step-said =
@@ -142,6 +153,10 @@ module _ (log : List ℕ) (well : log-refusal log ≡ Passed) where
         four-digits n (omega arith),
         lines-fit n (omega arith),
       )
+
+  -- the buffer for a text has room for what is put too far
+  pub text-roomy : length (text-of log) + 8 ≤ text-bytes
+  text-roomy = omega (arith, longest-text)
 
   pub text-fits : length (text-of log) ≤ text-bytes
   text-fits = omega (arith, longest-text)

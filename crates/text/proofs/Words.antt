@@ -1,6 +1,6 @@
 -- The words of the kinds: which stands at a place, and that no two can stand at one.
 use mathlib.Core.Path.{_≡_, refl, sym, ap, subst, _∙_}
-use mathlib.Core.Bool.{true, false}
+use mathlib.Core.Bool.{Bool, true, false}
 use mathlib.Core.List.{List, _++_}
 use mathlib.Core.Logic.{_⊎_, inl, inr}
 use Prim.Native.Nat.{ℕ, _+_, _≤_}
@@ -66,9 +66,21 @@ kind-word commit = refl
 kind-word abort = refl
 
 -- what is none of the first four has the word of the fifth
-pub other-op : (k : ℕ) → (k ≡ 1 → ⊥) → (k ≡ 2 → ⊥) → (k ≡ 3 → ⊥) → (k ≡ 4 → ⊥) → op k ≡ op 5
-unfolding op word _is_ if_then_else_
-other-op k a b c d = rw (→isnt a, →isnt b, →isnt c, →isnt d) refl
+pub other-word : (k : ℕ) → (k ≡ 1 → ⊥) → (k ≡ 2 → ⊥) → (k ≡ 3 → ⊥) → (k ≡ 4 → ⊥) → word k ≡ word 5
+unfolding word _is_ if_then_else_
+other-word k a b c d = rw (→isnt a, →isnt b, →isnt c, →isnt d) refl
+
+-- no word is longer
+pub word-length : (k : ℕ) → length (word k) ≤ 6
+unfolding word bytes if_then_else_
+word-length k = go (k is 1) (k is 2) (k is 3) (k is 4)
+  where
+    go : (a b c d : Bool) → length (if a then bytes "begin" else if b then bytes "read" else if c then bytes "write" else if d then bytes "commit" else bytes "abort") ≤ 6
+    go true b c d = omega arith
+    go false true c d = omega arith
+    go false false true d = omega arith
+    go false false false true = omega arith
+    go false false false false = omega arith
 
 -- a kind that stands there
 pub op-stands : (text : List ℕ) (at : ℕ) {k : ℕ} → Kind k → at ≤ length text → starts (op k) (drop at text) ≡ true → Finds op has-word text at (At k (at + length (op k)))

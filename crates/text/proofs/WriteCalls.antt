@@ -16,7 +16,7 @@ use Rattle.verdict.proofs.Only.{buffer-one, call-one}
 use Rattle.text.specs.Text.{text-of}
 use Rattle.text.specs.ReportCall.{said-length}
 use Rattle.text.specs.WriteCall.{text-bytes, write-refusal, leaves-text, WriteCall}
-use Rattle.text.specs.Inner.Put.{Puts}
+use Rattle.text.specs.Inner.Put.{Leads}
 use Rattle.text.specs.declared.TextAnswer.{TextAnswer}
 use Rattle.text.specs.declared.TextAnswer.the-variants as text-answer
 use Rattle.text.proofs.Clears.{cleared-behind}
@@ -50,12 +50,12 @@ module _ (log out : List ℕ) where
     unfolding leaves-text
     as-text {text} well e = answered text (sym (by-log ∙ well)) e refl refl
 
-    pub written : {out₁ out′ : List ℕ} {next : ℕ} → log-refusal log ≡ Passed → Puts (text-of log) 0 out next out₁ → length out₁ ≡ length out
+    pub written : {out₁ out′ : List ℕ} {next : ℕ} → log-refusal log ≡ Passed → Leads (text-of log) 0 out next out₁
         → out′ ≡ take next out₁ ++ zeros (length out₁ - next) → WriteCall log out (text-answer.Accepted next) out′
     unfolding said-length leaves-text
-    written {out₁} {out′} {next} well p e f =
-        answered (text-of log) (sym (by-log ∙ well)) refl (ap text-answer.Accepted (omega (arith, p .0)))
-        (ap (λ (u : List ℕ). u ∷ []) (cleared-behind text-bytes next (text-of log) out out₁ out′ (e ∙ size) p f))
+    written {out₁} {out′} {next} well p f =
+        answered (text-of log) (sym (by-log ∙ well)) refl (ap text-answer.Accepted (omega (arith, p .reaches)))
+        (ap (λ (u : List ℕ). u ∷ []) (cleared-behind text-bytes next (text-of log) out out₁ out′ (p .size ∙ size) p f))
 
 -- any two results of one call of `write` are equal, the answer and every entry of the lent buffer
 pub write-call-one : (log : List ℕ) {out : List ℕ} {r s : TextAnswer} {v w : List ℕ} → WriteCall log out r v → WriteCall log out s w → (r ≡ s) × (v ≡ w)

@@ -5,6 +5,7 @@ mod line;
 mod number;
 mod one_line;
 mod put;
+mod ready;
 mod report_line;
 mod reports;
 mod writer;

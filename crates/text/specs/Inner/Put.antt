@@ -16,6 +16,12 @@ Fits w at run = at + length w ≤ length run
 abbrev pub Puts : (w : List ℕ) (at : ℕ) (run : List ℕ) (next : ℕ) (run′ : List ℕ) → Type 0
 Puts w at run next run′ = (next ≡ at + length w) × (run′ ≡ put-at at w run)
 
+-- w leads on from this place: it stands there, what stands before it is as it was, and what stands behind it may be anything
+pub record Leads (w : List ℕ) (at : ℕ) (run : List ℕ) (next : ℕ) (run′ : List ℕ) : Type 0 where
+  pub reaches : next ≡ at + length w
+  pub size : length run′ ≡ length run
+  pub front : take next run′ ≡ take at run ++ w
+
 -- a line that passes has been put in, which has at most so many bytes
 abbrev pub PutsLine : (most : ℕ) (passes : List ℕ → Type 0) (at : ℕ) (run : List ℕ) (next : ℕ) (run′ : List ℕ) → Type 0
 PutsLine most passes at run next run′ = (w : List ℕ) × passes w × (length w ≤ most) × Puts w at run next run′

@@ -1,109 +1,55 @@
--- `put_op` meets its contract: the word of each kind.
+-- `put_op` meets its contract: `op=`, and the word that stands ready with the blank behind it.
 use borrow.Author.Needs.{needs}
-use mathlib.Core.Path.{_≡_}
-use mathlib.Core.List.{List}
-use Prim.Native.Nat.{ℕ}
-use Rattle.words.specs.Tests.{_is_, if_then_else_}
-use Rattle.text.specs.Bytes.{bytes}
+use native.Mathlib.Omega.{arith}
+use mathlib.Core.List.{List, [], _∷_, _++_}
+use Prim.Native.Nat.{ℕ, _≤_}
+use lib.ListN.{length, length-append}
+use Rattle.text.specs.Bytes.{bytes, blank}
 use Rattle.text.specs.Line.{word, item, op}
-use Rattle.text.proofs.Words.{other-op}
-use Rattle.text.proofs.Puts.{known-fits, known-puts}
+use Rattle.text.specs.Inner.Put.{Leads}
+use Rattle.text.proofs.Words.{word-length}
+use Rattle.text.proofs.Readies.{puts-lead, both-lead, ready-leads}
 use Rattle.text.proofs.writer.put_op.Statement.{statement}
 use Rattle.text.proofs.writer.put_op.Tie as tie
 
--- any kind that is none of the first four
-other : (c : tie.At-match-rest) → op (c .before .before .args .k) ≡ op 5
-other c = let r = c .match .rest in other-op _ (r .0 .0 .0 .1) (r .0 .0 .1) (r .0 .1) (r .1)
+-- the entry, from the call that puts the first three bytes
+abbrev entry : tie.After-put-word → tie.Start
+entry c = c .before .before .before .before
+
+first-leads : (c : tie.After-put-word) → let s = entry c in Leads (bytes "op=") (s .args .at) (s .args .out .now) (c .put-word .result) (c .put-word .last .0)
+unfolding bytes
+first-leads c = let s = entry c in puts-lead (bytes "op=") (s .args .out .now) (s .args .at) (omega (arith, s .pre)) (c .put-word .ensures)
 
 slice-aggregate-put-word : tie.Need-slice-aggregate-put-word
 slice-aggregate-put-word c = search needs
 
 put-word-requires : tie.Need-put-word-requires
-unfolding op item word bytes _is_ if_then_else_
-put-word-requires c κs = let m = c .before .before in let s = m .before .before in known-fits op (m .match .keys1) (s .args .out .now) (s .args .at) (s .pre)
+put-word-requires c κs = search needs
 
-slice-aggregate-put-word-2 : tie.Need-slice-aggregate-put-word-2
-slice-aggregate-put-word-2 c = search needs
+ready-word-requires : tie.Need-ready-word-requires
+ready-word-requires c κs = search needs
 
-put-word-requires-2 : tie.Need-put-word-requires-2
-unfolding op item word bytes _is_ if_then_else_
-put-word-requires-2 c κs = let m = c .before .before in let s = m .before .before in known-fits op (m .match .keys2) (s .args .out .now) (s .args .at) (s .pre)
+put-low-requires : tie.Need-put-low-requires
+put-low-requires c κs = search needs
 
-slice-aggregate-put-word-3 : tie.Need-slice-aggregate-put-word-3
-slice-aggregate-put-word-3 c = search needs
-
-put-word-requires-3 : tie.Need-put-word-requires-3
-unfolding op item word bytes _is_ if_then_else_
-put-word-requires-3 c κs = let m = c .before .before in let s = m .before .before in known-fits op (m .match .keys3) (s .args .out .now) (s .args .at) (s .pre)
-
-slice-aggregate-put-word-4 : tie.Need-slice-aggregate-put-word-4
-slice-aggregate-put-word-4 c = search needs
-
-put-word-requires-4 : tie.Need-put-word-requires-4
-unfolding op item word bytes _is_ if_then_else_
-put-word-requires-4 c κs = let m = c .before .before in let s = m .before .before in known-fits op (m .match .keys4) (s .args .out .now) (s .args .at) (s .pre)
-
-slice-aggregate-put-word-5 : tie.Need-slice-aggregate-put-word-5
-slice-aggregate-put-word-5 c = search needs
-
-put-word-requires-5 : tie.Need-put-word-requires-5
-unfolding op item word bytes _is_ if_then_else_
-put-word-requires-5 c κs = let m = c .before .before in let s = m .before .before in known-fits (λ (w : List ℕ). w) (other m) (s .args .out .now) (s .args .at) (s .pre)
+add-result : tie.Need-add-result
+add-result c = search needs
 
 same-length : tie.Need-same-length
 same-length c = search needs
 
 returns : tie.Need-returns
-unfolding op item word bytes _is_ if_then_else_
+unfolding op item bytes
 returns c =
-    let p = c .before .before in
-    let m = p .before .before .before in
-    let s = m .before .before in
-    known-puts op (m .match .keys1) (s .args .out .now) (s .args .at) (p .put-word .ensures)
-
-same-length-2 : tie.Need-same-length-2
-same-length-2 c = search needs
-
-returns-2 : tie.Need-returns-2
-unfolding op item word bytes _is_ if_then_else_
-returns-2 c =
-    let p = c .before .before in
-    let m = p .before .before .before in
-    let s = m .before .before in
-    known-puts op (m .match .keys2) (s .args .out .now) (s .args .at) (p .put-word2 .ensures)
-
-same-length-3 : tie.Need-same-length-3
-same-length-3 c = search needs
-
-returns-3 : tie.Need-returns-3
-unfolding op item word bytes _is_ if_then_else_
-returns-3 c =
-    let p = c .before .before in
-    let m = p .before .before .before in
-    let s = m .before .before in
-    known-puts op (m .match .keys3) (s .args .out .now) (s .args .at) (p .put-word3 .ensures)
-
-same-length-4 : tie.Need-same-length-4
-same-length-4 c = search needs
-
-returns-4 : tie.Need-returns-4
-unfolding op item word bytes _is_ if_then_else_
-returns-4 c =
-    let p = c .before .before in
-    let m = p .before .before .before in
-    let s = m .before .before in
-    known-puts op (m .match .keys4) (s .args .out .now) (s .args .at) (p .put-word4 .ensures)
-
-same-length-5 : tie.Need-same-length-5
-same-length-5 c = search needs
-
-returns-5 : tie.Need-returns-5
-unfolding op item word bytes _is_ if_then_else_
-returns-5 c =
-    let p = c .before .before in
-    let m = p .before .before .before in
-    let s = m .before .before in
-    known-puts (λ (w : List ℕ). w) (other m) (s .args .out .now) (s .args .at) (p .put-word5 .ensures)
+    let d = c .before .before in
+    let w = d .before .before in
+    let p = w .before .before .before in
+    let s = entry p in
+    let v = word (s .args .k) ++ blank ∷ [] in
+    let few : length v ≤ 8 = omega (arith, length-append (word (s .args .k)) (blank ∷ []), word-length (s .args .k)) in
+    both-lead (bytes "op=") v (s .args .out .now) (s .args .at) (first-leads p)
+    (ready-leads 8 72057594037927936 (w .ready-word .result) v (p .put-word .last .0) (d .put-low .last .0) (p .put-word .result) (w .ready-word .ensures) few
+    (omega (arith, first-leads p .reaches, first-leads p .size, s .pre)) (d .put-low .ensures))
 
 pub put-op-spec : {M : Type 1} → statement M
 put-op-spec =
@@ -111,21 +57,8 @@ put-op-spec =
     (tie.spec
     slice-aggregate-put-word
     put-word-requires
-    slice-aggregate-put-word-2
-    put-word-requires-2
-    slice-aggregate-put-word-3
-    put-word-requires-3
-    slice-aggregate-put-word-4
-    put-word-requires-4
-    slice-aggregate-put-word-5
-    put-word-requires-5
+    ready-word-requires
+    put-low-requires
+    add-result
     same-length
-    returns
-    same-length-2
-    returns-2
-    same-length-3
-    returns-3
-    same-length-4
-    returns-4
-    same-length-5
-    returns-5)
+    returns)

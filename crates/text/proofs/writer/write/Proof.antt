@@ -46,7 +46,7 @@ clear-bytes-from-requires : tie.Need-clear-bytes-from-requires
 clear-bytes-from-requires c κs =
     let p = c .before .before .before in
     let d = sized (checked (fine p)) in
-    omega (arith, text-fits (entry d .args .log .now) (passed (fine p)), p .put-steps .ensures .0, p .put-steps .kept .1 .0, d .if1 .left)
+    omega (arith, text-fits (entry d .args .log .now) (passed (fine p)), p .put-steps .ensures .reaches, p .put-steps .ensures .size, d .if1 .left)
 
 returns-2 : tie.Need-returns-2
 returns-2 c =
@@ -64,7 +64,7 @@ returns-3 c =
     let p = z .before .before .before .before in
     let d = sized (checked (fine p)) in
     let s = entry d in
-    written (s .args .log .now) (s .args .out .now) (d .if1 .left) (passed (fine p)) (p .put-steps .ensures) (p .put-steps .kept .1 .0) (z .clear-bytes-from .ensures)
+    written (s .args .log .now) (s .args .out .now) (d .if1 .left) (passed (fine p)) (p .put-steps .ensures) (z .clear-bytes-from .ensures)
 
 pub write-spec : {M : Type 1} → statement M
 write-spec =
