@@ -154,3 +154,7 @@ next-lowest {m} {left} {wait} {ready} d v e =
 
 pub none-next : {m left wait ready : List ℕ} → Settled m left wait ready nobody → some 129 (takes-part 128 ready) ≡ false → 129 ≡ lowest 129 (λ t. 1 upto t and may-begin m left t)
 none-next {m} {left} {wait} {ready} d none = next-lowest d 129 (sym (lowest-none (takes-part 128 ready) none))
+
+-- nobody is left to come next
+pub nobody-left : (m left : List ℕ) → some 129 (takes-part 128 left) ≡ false → 129 ≡ lowest 129 (λ t. 1 upto t and may-begin m left t)
+nobody-left m left none = sym (lowest-none _ (→none _ (λ t l. to-false _ (λ h. not-both (free→ (and→ h .1) .is-node) (none→ _ none t l)))))

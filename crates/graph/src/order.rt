@@ -102,15 +102,21 @@ pub(crate) fn lay_down(
     let mut left = part;
     let mut n = start;
     let mut wait = [0u64; ROWS];
-    let mut ready = settle_all(m, left, &mut wait, [0u64; WORDS], part);
-    while any(ready) {
-        let v = first(ready);
+    let mut ready = [0u64; WORDS];
+    let mut todo = part;
+    while any(left) {
+        let now = settle_all(m, left, &mut wait, ready, todo);
+        if !any(now) {
+            return Placing { count: n, left };
+        }
+        let v = first(now);
         list[n] = v as u16;
         n += 1;
         let others = dropped(left, v);
         left = others;
         let freed = common(row(&wait, v), others);
-        let then = settle_all(m, others, &mut wait, dropped(ready, v), freed);
+        todo = freed;
+        let then = dropped(now, v);
         ready = then;
     }
     Placing { count: n, left }

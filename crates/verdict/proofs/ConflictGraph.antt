@@ -11,16 +11,16 @@ use Rattle.words.specs.Tests.{_is_, _upto_, _and_, _or_, some}
 use Rattle.graph.specs.Matrix.{row-words, takes-part, in-row, Joins}
 use Rattle.graph.proofs.TwoWords.{no-member}
 use Rattle.graph.proofs.RowLaws.{no-rows}
-use Rattle.words.proofs.Truth.{decide, not-both, same-test, and→, →and, and-true, and-no-left, or→, →or-left, →or-right, or-no, →fails, fails→, isnt→, is→, →is, →isnt, →upto, if-true, if-false, some→, →some, →none, some-next, some-skip}
+use Rattle.words.proofs.Truth.{decide, not-both, same-test, and→, →and, and-true, and-no-left, and-no-right, or→, →or-left, →or-right, or-no, →fails, fails→, isnt→, is→, →is, →isnt, →upto, if-true, if-false, some→, →some, →none, some-next, some-skip}
 use Rattle.verdict.specs.Limits.{transactions, objects}
 use Rattle.verdict.specs.Log.{steps, kind, tx, obj, committed}
 use Rattle.verdict.specs.Conflict.{conflict-edge}
-use Rattle.verdict.specs.Inner.ConflictEdges.{touched-row, earlier-touch, touched-by, Touched, touches, meet-somehow, plain-conflict, conflict-pair, conflicts-until}
+use Rattle.verdict.specs.Inner.ConflictEdges.{touched-row, earlier-touch, Touches, touched-by, Touched, touches, meet-somehow, plain-conflict, conflict-pair, conflicts-until}
 use Rattle.verdict.specs.Inner.Edges.{Pair, one-edge, Drawn}
 use Rattle.verdict.proofs.WellFormed.{Well}
 use Rattle.verdict.proofs.Versions.{not-zero}
 use Rattle.verdict.proofs.Dependencies.{plain-conflict-edge}
-use Rattle.verdict.proofs.Matrices.{Kept, →kept, one-edge→, →one-edge, set-more, Between}
+use Rattle.verdict.proofs.Matrices.{Kept, →kept, one-edge→, →one-edge, same-edges, set-more, Between}
 
 -- WHICH ROW IS TOUCHED
 reader-row : (x : ℕ) → touched-row 2 x ≡ suc x
@@ -66,14 +66,30 @@ module _ (rows : List ℕ) (k x : ℕ) where
 
 -- THE EDGES THAT END AT A STEP
 module _ (log : List ℕ) where
-  -- a step of a transaction that did not commit ends no edge, and no step behind it meets it
-  pub ends-none : (j : ℕ) → committed log (tx log j) ≡ false → (a b : ℕ) → conflicts-until log j a b ≡ conflicts-until log (suc j) a b
-  unfolding conflicts-until conflict-pair some
-  ends-none j n a b = sym (or-no (conflicts-until log j a b) (→none {n = j} _ (λ i h. and-no-left _ (and-no-left _ (and-no-left _ n)))))
+  -- step j ends no edge, and no step behind it meets it
+  pub record Idle (j : ℕ) : Type 0 where
+    pub ends : (i a b : ℕ) → conflict-pair log j i a b ≡ false
+    pub meets : (k x a : ℕ) → (k ≡ 2) ⊎ (k ≡ 3) → touched-by log k x a j ≡ false
 
-  pub touches-none : (j : ℕ) → committed log (tx log j) ≡ false → {rows : List ℕ} → Touched log j rows → Touched log (suc j) rows
-  unfolding touched-by
-  touches-none j n t = record { size = t .size; mark = λ k x a w h. t .mark k x a w h ∙ sym (rw (← add-one j) (some-skip j (touched-by log k x a) (and-no-left _ (and-no-left _ (and-no-left _ n))))) }
+  -- as one of a transaction that did not commit, and one that neither reads nor writes
+  pub open-step : (j : ℕ) → committed log (tx log j) ≡ false → Idle j
+  unfolding conflict-pair touched-by
+  open-step j n = record { ends = λ i a b. and-no-left _ (and-no-left _ (and-no-left _ n)); meets = λ k x a w. and-no-left _ (and-no-left _ (and-no-left _ n)) }
+
+  pub other-step : (j : ℕ) → (kind log j ≡ 2 → ⊥) → (kind log j ≡ 3 → ⊥) → Idle j
+  unfolding conflict-pair meet-somehow touches touched-by
+  other-step j r w =
+      record {
+        ends = λ i a b. and-no-left _ (and-no-right _ (and-no-left _ (and-no-left _ (and-no-right _ (or-no _ (→isnt w) ∙ →isnt r)))));
+        meets = λ k x a o. and-no-left _ (and-no-left _ (and-no-right _ (→isnt (λ (e : kind log j ≡ k). ⊎-elim (λ (z : k ≡ 2). r (e ∙ z)) (λ (z : k ≡ 3). w (e ∙ z)) o))));
+      }
+
+  pub ends-none : {j : ℕ} → Idle j → {m : List ℕ} → Drawn (conflicts-until log j) m → Drawn (conflicts-until log (suc j)) m
+  unfolding conflicts-until some
+  ends-none {j} idle d = same-edges d (λ a b. sym (or-no (conflicts-until log j a b) (→none {n = j} _ (λ i h. idle .ends i a b))))
+
+  pub touches-none : {j : ℕ} → Idle j → {rows : List ℕ} → Touched log j rows → Touched log (suc j) rows
+  touches-none {j} idle t = record { size = t .size; mark = λ k x a w h. t .mark k x a w h ∙ sym (rw (← add-one j) (some-skip j (touched-by log k x a) (idle .meets k x a w))) }
 
   -- nothing was touched yet
   pub untouched : Touched log 0 (replicate row-words 0)
@@ -114,7 +130,7 @@ module _ (log : List ℕ) where
               ⊎-elim write
               (λ w. ⊎-elim (λ k. →or-right _ (→and w (readers ∙ →some _ (r .0) (r .1) (→and (→and (→and (q .0) k) (n .1)) (p .1))))) write (or→ (l .0))) (or→ (o .1))
 
-      pub ends-drawn : {m m′ before : List ℕ} → Drawn (conflicts-until log j) m → {k x : ℕ} → k ≡ kind log j → x ≡ obj log j → ((a : ℕ) → takes-part transactions before a ≡ earlier-touch rows k x a) → {u : ℕ} → u ≡ tx log j → Joins m before u m′
+      ends-drawn : {m m′ before : List ℕ} → Drawn (conflicts-until log j) m → {k x : ℕ} → k ≡ kind log j → x ≡ obj log j → ((a : ℕ) → takes-part transactions before a ≡ earlier-touch rows k x a) → {u : ℕ} → u ≡ tx log j → Joins m before u m′
           → Drawn (conflicts-until log (suc j)) m′
       unfolding conflicts-until conflict-pair one-edge some
       ends-drawn {m} {m′} {before} d {k} {x} is-kind is-obj known {u} is-tx g =
@@ -178,6 +194,12 @@ module _ (log : List ℕ) where
                 let v : touched-row k x ≡ row = sym (is-row ∙ ap₂ touched-row f o) in
                 let b = row-range k x w h in
                 →and (→and (→and (→is v) (→upto (rw (← v) (b .0)))) (→upto (rw (← v) (b .1)))) (single a ∙ r .1)
+
+    -- its edges are drawn, and it is noted
+    pub step-touches : obj log j < objects → {m m′ rows′ : List ℕ} {k u x : ℕ} → Drawn (conflicts-until log j) m → k ≡ kind log j → u ≡ tx log j → x ≡ obj log j → Touches m rows k u x m′ rows′
+        → Drawn (conflicts-until log (suc j)) m′ × Touched log (suc j) rows′
+    step-touches x-low d is-kind is-tx is-obj g =
+        (ends-drawn x-low d is-kind is-obj (g .known) is-tx (g .joins), touched-more x-low is-tx (g .single) (ap₂ touched-row is-kind is-obj) (g .noted))
 
 module _ {most : ℕ} (log : List ℕ) (well : Well most log) where
   pub all-conflicts : (a b : ℕ) → conflicts-until log (steps log) a b ≡ conflict-edge log a b

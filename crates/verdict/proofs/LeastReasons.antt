@@ -188,33 +188,37 @@ module _ {c : List ℕ} where
                 (decide (a is getD c i 0));
           })
 
-  -- the edge from s to t is offered where s stands before t
-  pub edge-offered : {before table : List ℕ} {on : ℕ → ℕ → ℕ → ℕ → Bool} → Before c before → Best c on table → (s t y m : ℕ) → s ≤ transactions → t ≤ transactions → m < 4
-      → Best c (with-edge on s t y m) (offered table s (number-if (getD before t 0 is s) y m))
-  unfolding with-edge edge-on
-  edge-offered {before} {table} {on} p b s t y m s-high t-high m-low =
-      best-more b s s-high (getD before t 0 is s) y m m-low
-      (λ i h x k. ap (λ (z : Bool). on (getD c i 0) (follower c i) x k or z) (same-test (there i h x k) (back i h x k)))
+  -- the edge from s to t leads from a member to its follower only where s stands before t
+  edge-before : {before : List ℕ} → Before c before → (s t y m : ℕ) → t ≤ transactions → (i : ℕ) → i < length c → (x k : ℕ) → edge-on s t y m (getD c i 0) (follower c i) x k ≡ true → getD before t 0 ≡ s
+  unfolding edge-on
+  edge-before p s t y m t-high i h x k q =
+      let v = and→ (and→ (and→ q .0) .0) in
+      is→ (p .stands i t h t-high ∙ v .1) ∙ sym (is→ (v .0))
+
+  -- where it does, it is offered
+  pub edge-offered : {before table : List ℕ} {on : ℕ → ℕ → ℕ → ℕ → Bool} → Before c before → Best c on table → (s t y m : ℕ) → s ≤ transactions → t ≤ transactions → m < 4 → getD before t 0 ≡ s
+      → Best c (with-edge on s t y m) (offered table s (reason-number y m))
+  unfolding with-edge edge-on number-if
+  edge-offered {before} {table} {on} p b s t y m s-high t-high m-low f =
+      rw (if-true (reason-number y m) no-reason refl) at
+      (best-more {other = with-edge on s t y m} b s s-high true y m m-low (λ i h x k. ap (λ (z : Bool). on (getD c i 0) (follower c i) x k or z) (same-test (there i x k) (back i h x k))))
     where
-      there : (i : ℕ) → i < length c → (x k : ℕ) → (s is getD c i 0 and t is follower c i and y is x and m is k) ≡ true
-          → (s is getD c i 0 and (getD before t 0 is s and y is x and m is k)) ≡ true
-      there i h x k q =
+      there : (i x k : ℕ) → (s is getD c i 0 and t is follower c i and y is x and m is k) ≡ true → (s is getD c i 0 and (true and y is x and m is k)) ≡ true
+      there i x k q =
           let r = and→ q in
           let u = and→ (r .0) in
-          let v = and→ (u .0) in
-          let e : s ≡ getD c i 0 = is→ (v .0) in
-          let f : getD before t 0 ≡ getD c i 0 = is→ (p .stands i t h t-high ∙ v .1) in
-          →and (v .0) (→and (→and (→is (f ∙ sym e)) (u .1)) (r .1))
+          →and (and→ (u .0) .0) (→and (→and refl (u .1)) (r .1))
 
-      back : (i : ℕ) → i < length c → (x k : ℕ) → (s is getD c i 0 and (getD before t 0 is s and y is x and m is k)) ≡ true
-          → (s is getD c i 0 and t is follower c i and y is x and m is k) ≡ true
+      back : (i : ℕ) → i < length c → (x k : ℕ) → (s is getD c i 0 and (true and y is x and m is k)) ≡ true → (s is getD c i 0 and t is follower c i and y is x and m is k) ≡ true
       back i h x k q =
           let r = and→ q in
           let u = and→ (r .1) in
-          let v = and→ (u .0) in
-          let e : s ≡ getD c i 0 = is→ (r .0) in
-          let f : getD before t 0 ≡ s = is→ (v .0) in
-          →and (→and (→and (r .0) (sym (p .stands i t h t-high) ∙ →is (f ∙ e))) (v .1)) (u .1)
+          →and (→and (→and (r .0) (sym (p .stands i t h t-high) ∙ →is (f ∙ is→ (r .0)))) (and→ (u .0) .1)) (u .1)
+
+  -- where it does not, nothing changes
+  pub edge-passed : {before table : List ℕ} {on : ℕ → ℕ → ℕ → ℕ → Bool} → Before c before → Best c on table → (s t y m : ℕ) → t ≤ transactions → (getD before t 0 ≡ s → ⊥) → Best c (with-edge on s t y m) table
+  unfolding with-edge
+  edge-passed p b s t y m t-high n = best-same b (λ i h x k. or-no _ (to-false _ (λ q. n (edge-before p s t y m t-high i h x k q))))
 
 -- THE LEAST IS THE FIRST THAT FITS
 module _ (on : ℕ → ℕ → Bool) (any : some-dependency on ≡ true) where

@@ -12,13 +12,13 @@ use Rattle.graph.specs.Order.{is-order}
 use Rattle.graph.specs.Matrix.{matrix-order, row-words, takes-part, joined, in-row, Joins, Sorts}
 use Rattle.graph.specs.Shows.{Shows}
 use Rattle.graph.specs.declared.Shown.{Shown}
-use Rattle.words.proofs.Truth.{not-both, same-test, and→, →and, and-true-right, or→, →or-left, or-assoc, →fails, fails→, is→, isnt→, →is, →isnt, →upto}
+use Rattle.words.proofs.Truth.{not-both, same-test, and→, →and, and-true-right, or→, →or-left, →fails, fails→, is→, isnt→, →is, →isnt, →upto}
 use Rattle.graph.proofs.Marks.{part→, joined→, in-row-of, joined-by-row}
 use Rattle.graph.proofs.TwoWords.{no-member}
 use Rattle.graph.proofs.RowLaws.{no-rows}
 use Rattle.verdict.specs.Limits.{transactions}
 use Rattle.verdict.specs.Log.{committed}
-use Rattle.verdict.specs.Inner.Edges.{Pair, kept, one-edge, no-edge, EdgeAdded, EdgesAdded, Drawn}
+use Rattle.verdict.specs.Inner.Edges.{Pair, kept, one-edge, no-edge, EdgeAdded, Drawn}
 use Rattle.verdict.specs.Inner.Marks.{Committed}
 
 -- WHICH EDGES ARE KEPT
@@ -76,10 +76,6 @@ edge-added {m} {one} {m′} {s} {t} size e g =
         let high-b : b ≤ transactions = p .4 in
         →and (→and (→and (→is (sym v)) (→upto (omega arith))) (→upto (omega arith))) (e a ∙ →or-left _ (→and (→and (→is (sym u)) (→upto (omega arith))) (→upto (omega arith))))
 
--- .. and another one
-pub edges-added : {m m′ m″ : List ℕ} {v t u : ℕ} → EdgeAdded m v t m′ → EdgeAdded m′ t u m″ → EdgesAdded m v t u m″
-edges-added {m} {t} {u} e f = record { size = f .size ∙ e .size; mark = λ a b p. f .mark a b p ∙ ap (λ (z : Bool). z or one-edge t u a b) (e .mark a b p) ∙ sym (or-assoc (in-row m b a) _ _) }
-
 pub no-edges : {m : List ℕ} → m ≡ zeros row-words → Drawn no-edge m
 unfolding zeros no-edge
 no-edges {m} e = record { size = rw e (length-replicate {A = ℕ} row-words 0); mark = λ a b p. rw e (no-rows row-words b a) }
@@ -89,8 +85,8 @@ module _ {edge : ℕ → ℕ → Bool} {m : List ℕ} (drawn : Drawn edge m) whe
   pub same-edges : {other : ℕ → ℕ → Bool} → ((a b : ℕ) → edge a b ≡ other a b) → Drawn other m
   same-edges f = record { size = drawn .size; mark = λ a b p. drawn .mark a b p ∙ f a b }
 
-  pub edges-more : {m′ : List ℕ} {v t u : ℕ} → EdgesAdded m v t u m′ → Drawn (λ a b. edge a b or (one-edge v t a b or one-edge t u a b)) m′
-  edges-more {v} {t} {u} e = record { size = e .size ∙ drawn .size; mark = λ a b p. e .mark a b p ∙ ap (λ (z : Bool). z or (one-edge v t a b or one-edge t u a b)) (drawn .mark a b p) }
+  pub edge-more : {m′ : List ℕ} {s t : ℕ} → EdgeAdded m s t m′ → Drawn (λ a b. edge a b or one-edge s t a b) m′
+  edge-more {s} {t} e = record { size = e .size ∙ drawn .size; mark = λ a b p. e .mark a b p ∙ ap (λ (z : Bool). z or one-edge s t a b) (drawn .mark a b p) }
 
   -- edges to t from all of a set
   pub set-more : {m′ part : List ℕ} {t : ℕ} → 1 ≤ t → t ≤ transactions → Joins m part t m′ → Drawn (λ a b. edge a b or (b is t and takes-part transactions part a)) m′

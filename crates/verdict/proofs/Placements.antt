@@ -6,6 +6,7 @@ use mathlib.Core.List.{List, [], _∷_, _++_, append-nil, append-assoc}
 use Prim.Native.Nat.{ℕ, suc, _+_, _*_, _≤_, _<_}
 use native.Mathlib.Omega.{arith}
 use lib.ListN.{length, getD, set, take}
+use lib.Seq.{take-take, take-append-seam}
 use Rattle.words.specs.Tests.{_is_, _below_, _and_, fails, some, every, count, lowest}
 use Rattle.words.specs.Lists.{member}
 use Rattle.words.specs.First.{dictionary, Never}
@@ -28,9 +29,14 @@ member-one a t p n =
     same-test (λ e. ⊎-elim (λ l. l) (λ (l : member a (t ∷ []) ≡ true). ⊎-elim (λ (z : a ≡ t). absurd (n z)) (λ (z : member a [] ≡ true). absurd (false≢true (unfold member in z))) (member→ a t [] l)) (member-either a p (t ∷ []) e))
     (λ e. member-left a p (t ∷ []) e)
 
--- one more is placed behind the others
-pub behind-placed : {i : ℕ} {run next : Run} (order : List ℕ) (t : ℕ) → OneMore i run next → run .at < length order → placed-of next (set order (run .at) t) ≡ placed-of run order ++ t ∷ []
-behind-placed {run = run} order t one h = rw (one .more) (take-next order (run .at) t h)
+-- one more is placed behind the others; and what was placed before it, from there
+module _ {i : ℕ} {run next : Run} (one : OneMore i run next) (t : ℕ) where
+  pub behind-placed : (order p : List ℕ) → run .at < length order → placed-of run order ≡ p → placed-of next (set order (run .at) t) ≡ p ++ t ∷ []
+  behind-placed order p h e = rw (one .more, ← e) (take-next order (run .at) t h)
+
+  pub before-placed : (order p : List ℕ) → length p ≡ run .at → placed-of next order ≡ p ++ t ∷ [] → placed-of run order ≡ p
+  before-placed order p size e =
+      sym (take-take (run .at) (next .at) order (omega (arith, one .more))) ∙ ap (take (run .at)) e ∙ ap (λ (k : ℕ). take k (p ++ t ∷ [])) (sym size) ∙ take-append-seam p (t ∷ [])
 
 module _ {log table writes ones asks : List ℕ} {n : ℕ} (known : Searchable log table writes ones asks n) where
   well : Well transactions log
@@ -47,55 +53,55 @@ module _ {log table writes ones asks : List ℕ} {n : ℕ} (known : Searchable l
       ⊎-elim (λ (b : (i below k) ≡ true). omega (arith, known .list .rising i k (below→ b) l))
       (λ (b : (i below k) ≡ false). omega (arith, known .list .rising k i (omega (arith, not-below→ b)) h)) (decide (i below k))
 
-  module _ {run : Run} {order last : List ℕ} (placed : Placed log ones n run order last) where
+  module _ {run : Run} {p last : List ℕ} (placed : Placed log ones n run p last) where
     -- nothing starts but what is left on the list
-    pub tried-none : Tried log (placed-of run order) ones (run .free) (run .free)
+    pub tried-none : Tried log p ones (run .free) (run .free)
     tried-none = record { part = λ k m. m; never = λ d f v. to-false _ (λ k. starts d v k f) }
       where
-        starts : (d : ℕ) (v : List ℕ) → explains-loosely transactions log (placed-of run order ++ d ∷ v) ≡ true → ((k : ℕ) → marked (run .free) k ≡ true → getD ones k 0 ≡ d → ⊥) → ⊥
+        starts : (d : ℕ) (v : List ℕ) → explains-loosely transactions log (p ++ d ∷ v) ≡ true → ((k : ℕ) → marked (run .free) k ≡ true → getD ones k 0 ≡ d → ⊥) → ⊥
         starts d v k f =
             let g = goes-on log well _ _ (placed .so-far) d v k in
             let r = known .list .every-one d (g .0) in
             f (r .0) (placed .left (r .0) (r .1) ∙ →fails (rw (r .2) (g .1))) (r .2)
 
     -- all have had their turn: what is placed is an order, or nothing is
-    pub search-over : {rest : ℕ} → Tried log (placed-of run order) ones (run .free) rest → some 64 (marked rest) ≡ false → Searched log (placed-of run order) n (run .at is n) order
-    search-over {rest} tried none = go (decide (run .at is n))
+    pub search-over : {rest : ℕ} {order : List ℕ} → Tried log p ones (run .free) rest → some 64 (marked rest) ≡ false → placed-of run order ≡ p → Searched log p n (run .at is n) order
+    search-over {rest} {order} tried none begins = go (decide (run .at is n))
       where
         -- where no mark is left all are placed
-        none-left : count n (marked (run .free)) ≡ 0 → (t : ℕ) → t ≤ transactions → committed log t ≡ true → member t (placed-of run order) ≡ true
+        none-left : count n (marked (run .free)) ≡ 0 → (t : ℕ) → t ≤ transactions → committed log t ≡ true → member t p ≡ true
         none-left z t h c =
             let r = known .list .every-one t c in
             rw (r .2) at (not-fails→ (sym (placed .left (r .0) (r .1)) ∙ none-counted n (marked (run .free)) z (r .0) (r .1)))
 
         -- where one is left, what is placed does not explain
-        one-left : (run .at ≡ n → ⊥) → (some n (marked (run .free)) ≡ true) ⊎ (some n (marked (run .free)) ≡ false) → explains-loosely transactions log (placed-of run order ++ []) ≡ false
+        one-left : (run .at ≡ n → ⊥) → (some n (marked (run .free)) ≡ true) ⊎ (some n (marked (run .free)) ≡ false) → explains-loosely transactions log (p ++ []) ≡ false
         one-left z (inl k) =
             let r = some→ k in
             not-all log well _ _ (placed .so-far) (getD ones (r .0) 0) (known .list .each (r .0) (r .1)) (fails→ (sym (placed .left (r .0) (r .1)) ∙ r .2))
         one-left z (inr k) = absurd (z (omega (arith, placed .fills, count-none n (marked (run .free)) k)))
 
-        go : ((run .at is n) ≡ true) ⊎ ((run .at is n) ≡ false) → Searched log (placed-of run order) n (run .at is n) order
+        go : ((run .at is n) ≡ true) ⊎ ((run .at is n) ≡ false) → Searched log p n (run .at is n) order
         go (inl q) =
             let e : run .at ≡ n = is→ q in
             rw q
             (found []
             (record { one = all-placed log well _ _ (placed .so-far) (known .clean) (none-left (omega (arith, placed .fills))); none-earlier = λ v h. unfold dictionary in refl })
-            (ap (λ (k : ℕ). take k order) (sym e) ∙ sym (append-nil (placed-of run order))))
+            (ap (λ (k : ℕ). take k order) (sym e) ∙ begins ∙ sym (append-nil p)))
         go (inr q) =
             rw q
-            (missed (no-head (λ v. explains-loosely transactions log (placed-of run order ++ v)) (one-left (isnt→ q) (decide (some n (marked (run .free))))) (λ a. tried .never a (λ k m e. not-both m (none→ (marked rest) none k (omega (arith, known .few, placed .within k (tried .part k m))))))))
+            (missed (no-head (λ v. explains-loosely transactions log (p ++ v)) (one-left (isnt→ q) (decide (some n (marked (run .free))))) (λ a. tried .never a (λ k m e. not-both m (none→ (marked rest) none k (omega (arith, known .few, placed .within k (tried .part k m))))))))
 
     -- the one at place i, which is left
     module _ (i : ℕ) (free : marked (run .free) i ≡ true) where
       h : i < n
       h = placed .within i free
 
-      finding : (x : ℕ) → x < objects → allows (getD table (getD ones i 0 * objects + x) 0) (getD last x 0) ≡ allows (need log (getD ones i 0) x (steps log)) (ran log x 0 (placed-of run order))
+      finding : (x : ℕ) → x < objects → allows (getD table (getD ones i 0 * objects + x) 0) (getD last x 0) ≡ allows (need log (getD ones i 0) x (steps log)) (ran log x 0 p)
       finding x k = rw (known .needs .entry (getD ones i 0) x (known .list .each i h) (on-list i h) k, placed .so-far .writers x k) refl
 
       -- it would not find what it needs
-      pub not-next : may-follow table ones last i ≡ false → Never (λ v. explains-loosely transactions log (placed-of run order ++ getD ones i 0 ∷ v))
+      pub not-next : may-follow table ones last i ≡ false → Never (λ v. explains-loosely transactions log (p ++ getD ones i 0 ∷ v))
       unfolding may-follow
       not-next f v =
           to-false _
@@ -108,7 +114,7 @@ module _ {log table writes ones asks : List ℕ} {n : ℕ} (known : Searchable l
         unfolding may-follow
         follows = f
 
-        not-yet : member (getD ones i 0) (placed-of run order) ≡ false
+        not-yet : member (getD ones i 0) p ≡ false
         not-yet = fails→ (sym (placed .left i h) ∙ free)
 
         one-fewer : suc (count n (marked (less (run .free) i))) ≡ count n (marked (run .free))
@@ -121,29 +127,29 @@ module _ {log table writes ones asks : List ℕ} {n : ℕ} (known : Searchable l
         room = omega (arith, placed .fills, one-fewer)
 
         -- it is placed
-        pub one-placed : {next : Run} {longer after : List ℕ} → OneMore i run next → placed-of next longer ≡ placed-of run order ++ getD ones i 0 ∷ [] → LastAfter writes (getD ones i 0) last after → Placed log ones n next longer after
-        one-placed {after = after} one behind wrote = record {
-          so-far = rw behind
+        pub one-placed : {next : Run} {after : List ℕ} → OneMore i run next → LastAfter writes (getD ones i 0) last after → Placed log ones n next (p ++ getD ones i 0 ∷ []) after
+        one-placed {after = after} one wrote = record {
+          so-far =
               (placed-more log well _ _ (placed .so-far) (getD ones i 0) (known .list .each i h) not-yet (λ x k. sym (finding x k) ∙ every→ _ follows x k) after (wrote .size)
               (λ x k. wrote .each x k ∙ rw (known .written .mark (getD ones i 0) x (on-list i h) k) refl));
-          left = λ k l. rw (one .taken, behind) (marked-less (run .free) i k ∙ stays k l (decide (k is i)));
+          left = λ k l. rw (one .taken) (marked-less (run .free) i k ∙ stays k l (decide (k is i)));
           within = λ k m. placed .within k (and→ (sym (marked-less (run .free) i k) ∙ (rw (one .taken) at m)) .0);
           fills = rw (one .taken) (omega (arith, one .more, placed .fills, one-fewer));
         }
           where
-            stays : (k : ℕ) → k < n → ((k is i) ≡ true) ⊎ ((k is i) ≡ false) → (marked (run .free) k and fails (k is i)) ≡ fails (member (getD ones k 0) (placed-of run order ++ getD ones i 0 ∷ []))
+            stays : (k : ℕ) → k < n → ((k is i) ≡ true) ⊎ ((k is i) ≡ false) → (marked (run .free) k and fails (k is i)) ≡ fails (member (getD ones k 0) (p ++ getD ones i 0 ∷ []))
             stays k l (inl q) =
                 let e : k ≡ i = is→ q in
-                and-no-right _ (→not-fails q) ∙ sym (→not-fails (rw e (member-right (getD ones i 0) (placed-of run order) (getD ones i 0 ∷ []) (member-head (getD ones i 0) []))))
-            stays k l (inr q) = and-true-right _ (→fails q) ∙ placed .left k l ∙ sym (ap fails (member-one (getD ones k 0) (getD ones i 0) (placed-of run order) (apart i k h l q)))
+                and-no-right _ (→not-fails q) ∙ sym (→not-fails (rw e (member-right (getD ones i 0) p (getD ones i 0 ∷ []) (member-head (getD ones i 0) []))))
+            stays k l (inr q) = and-true-right _ (→fails q) ∙ placed .left k l ∙ sym (ap fails (member-one (getD ones k 0) (getD ones i 0) p (apart i k h l q)))
 
         -- what is found behind it is found, and what is missed is missed
-        pub search-found : {full : List ℕ} {rest : ℕ} → Tried log (placed-of run order) ones (run .free) rest → i ≡ lowest 64 (marked rest) → Searched log (placed-of run order ++ getD ones i 0 ∷ []) n true full → Searched log (placed-of run order) n true full
+        pub search-found : {full : List ℕ} {rest : ℕ} → Tried log p ones (run .free) rest → i ≡ lowest 64 (marked rest) → Searched log (p ++ getD ones i 0 ∷ []) n true full → Searched log p n true full
         search-found tried first (found u g e) =
             found (getD ones i 0 ∷ u)
-            (first-head (λ v. explains-loosely transactions log (placed-of run order ++ v)) (not-all log well _ _ (placed .so-far) (getD ones i 0) (known .list .each i h) not-yet) (getD ones i 0) u (tried-below log tried i (known .list) (placed .within) first)
-            (record { one = rw (append-assoc (placed-of run order) (getD ones i 0 ∷ []) u) at (g .one); none-earlier = λ v k. g .none-earlier v (rw (append-assoc (placed-of run order) (getD ones i 0 ∷ []) v) k) }))
-            (e ∙ append-assoc (placed-of run order) (getD ones i 0 ∷ []) u)
+            (first-head (λ v. explains-loosely transactions log (p ++ v)) (not-all log well _ _ (placed .so-far) (getD ones i 0) (known .list .each i h) not-yet) (getD ones i 0) u (tried-below log tried i (known .list) (placed .within) first)
+            (record { one = rw (append-assoc p (getD ones i 0 ∷ []) u) at (g .one); none-earlier = λ v k. g .none-earlier v (rw (append-assoc p (getD ones i 0 ∷ []) v) k) }))
+            (e ∙ append-assoc p (getD ones i 0 ∷ []) u)
 
-        pub search-missed : {full : List ℕ} → Searched log (placed-of run order ++ getD ones i 0 ∷ []) n false full → Never (λ v. explains-loosely transactions log (placed-of run order ++ getD ones i 0 ∷ v))
-        search-missed (missed g) v = rw (append-assoc (placed-of run order) (getD ones i 0 ∷ []) v) at (g v)
+        pub search-missed : {full : List ℕ} → Searched log (p ++ getD ones i 0 ∷ []) n false full → Never (λ v. explains-loosely transactions log (p ++ getD ones i 0 ∷ v))
+        search-missed (missed g) v = rw (append-assoc p (getD ones i 0 ∷ []) v) at (g v)

@@ -46,7 +46,7 @@ all-counted zero p f = refl
 all-counted (suc n) p f = if-true _ _ (f n (omega arith)) ∙ ap suc (all-counted n p (λ (i : ℕ) (h : i < n). f i (omega arith)))
 
 -- at first nothing is placed, and each of the n places of the list is marked
-pub nothing-placed : (log ones : List ℕ) {n : ℕ} → n ≤ most-searched → Placed log ones n (record { free = (1 * 2 ^ n) % 2 ^ 64 - 1; at = 0 }) (replicate 8 0) (replicate 64 0)
+pub nothing-placed : (log ones : List ℕ) {n : ℕ} → n ≤ most-searched → Placed log ones n (record { free = (1 * 2 ^ n) % 2 ^ 64 - 1; at = 0 }) [] (replicate 64 0)
 unfolding distinct all ran
 nothing-placed log ones {n} few =
     record {

@@ -6,16 +6,16 @@ use mathlib.Core.List.{List}
 use Prim.Native.Nat.{ℕ, suc, _≤_, _<_}
 use native.Mathlib.Omega.{arith}
 use Rattle.words.specs.Tests.{_is_, _below_, _and_, _or_, some}
-use Rattle.words.proofs.Truth.{decide, to-false, same-test, and→, →and, and-true, and-no-left, and-no-right, or→, →or-left, →or-right, or-no, or-false, →fails, fails→, is→, isnt→, →is, →isnt, below→, if-true, if-false, some→, →some}
+use Rattle.words.proofs.Truth.{decide, same-test, and→, →and, and-true, and-no-left, and-no-right, or→, →or-left, →or-right, or-no, or-false, or-assoc, →fails, fails→, is→, isnt→, →is, →isnt, below→, if-true, if-false, some→, →some}
 use Rattle.verdict.specs.Limits.{transactions}
 use Rattle.verdict.specs.Log.{steps, kind, tx, obj, src, reads, committed}
 use Rattle.verdict.specs.Clean.{judged, is-clean}
 use Rattle.verdict.specs.Version.{next-commit, next-version, version-edge}
 use Rattle.verdict.specs.Inner.VersionEdges.{from-writer, from-source, from-reader, plain-version, next-writer, write-edges, read-edges, version-step, versions-until}
-use Rattle.verdict.specs.Inner.Edges.{one-edge, EdgesAdded, Drawn}
+use Rattle.verdict.specs.Inner.Edges.{one-edge, EdgeAdded, Drawn}
 use Rattle.verdict.proofs.WellFormed.{Well}
 use Rattle.verdict.proofs.Dependencies.{plain-version-edge, version-leaves, version-enters}
-use Rattle.verdict.proofs.Matrices.{Kept, one-edge→, →one-edge, same-edges, edges-more, Between}
+use Rattle.verdict.proofs.Matrices.{Kept, one-edge→, →one-edge, same-edges, edge-more, Between}
 
 -- THE WRITER OF THE NEXT VERSION
 module _ (log : List ℕ) (x v : ℕ) where
@@ -67,15 +67,16 @@ module _ (log : List ℕ) (i : ℕ) where
     none-drawn f = same-edges drawn (λ a b. sym (or-no _ (f a b)))
 
     module _ {m′ : List ℕ} (c : committed log (tx log i) ≡ true) where
-      pub write-drawn : kind log i ≡ 3 → {t w : ℕ} → t ≡ tx log i → w ≡ next-writer log (obj log i) (tx log i) → EdgesAdded m t t w m′ → Drawn (versions-until log (suc i)) m′
+      pub write-drawn : kind log i ≡ 3 → {t w : ℕ} → t ≡ tx log i → w ≡ next-writer log (obj log i) (tx log i) → EdgeAdded m t w m′ → Drawn (versions-until log (suc i)) m′
       unfolding versions-until some write-edges
-      write-drawn k p q e =
-          same-edges (edges-more drawn (rw (p, q) at e))
-          (λ a b. ap (λ (z : Bool). versions-until log i a b or z) (or-false (to-false _ (λ h. let o = one-edge→ (tx log i) (tx log i) a b h in o .0 .differ (sym (o .1) ∙ o .2))) ∙ sym (write-step c k a b)))
+      write-drawn k p q e = same-edges (edge-more drawn (rw (p, q) at e)) (λ a b. ap (λ (z : Bool). versions-until log i a b or z) (sym (write-step c k a b)))
 
-      pub read-drawn : kind log i ≡ 2 → {v t w : ℕ} → v ≡ src log i → t ≡ tx log i → w ≡ next-writer log (obj log i) (src log i) → EdgesAdded m v t w m′ → Drawn (versions-until log (suc i)) m′
+      pub read-drawn : kind log i ≡ 2 → {v t w : ℕ} → v ≡ src log i → t ≡ tx log i → w ≡ next-writer log (obj log i) (src log i) → {between : List ℕ} → EdgeAdded m v t between → EdgeAdded between t w m′
+          → Drawn (versions-until log (suc i)) m′
       unfolding versions-until some read-edges
-      read-drawn k o p q e = same-edges (edges-more drawn (rw (o, p, q) at e)) (λ a b. ap (λ (z : Bool). versions-until log i a b or z) (sym (read-step c k a b)))
+      read-drawn k o p q e f =
+          same-edges (edge-more (edge-more drawn (rw (o, p) at e)) (rw (p, q) at f))
+          (λ a b. sym (or-assoc (versions-until log i a b) _ _) ∙ ap (λ (z : Bool). versions-until log i a b or z) (sym (read-step c k a b)))
 
 -- THE EDGES OF ALL STEPS
 module _ (log : List ℕ) (a b : ℕ) where

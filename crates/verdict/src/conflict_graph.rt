@@ -12,7 +12,8 @@ use crate::step::step_at;
 use crate::touching::touched_row;
 use crate::walk::index;
 ghost use mathlib.Core.Path.{_≡_};
-ghost use Prim.Native.Nat.{ℕ, _<_};
+ghost use Prim.Native.Nat.{ℕ, suc, _≤_, _<_, _+_, _*_};
+ghost use lib.ListN.{length};
 ghost use Rattle.graph.specs.Matrix.{takes-part};
 ghost use Rattle.verdict.specs.Limits.{transactions, objects};
 ghost use Rattle.verdict.specs.Refusal.{log-refusal};
@@ -21,7 +22,7 @@ ghost use Rattle.verdict.specs.Conflict.{conflict-edge, Conflict};
 ghost use Rattle.verdict.specs.Call.{ConflictCall};
 ghost use Rattle.verdict.specs.Inner.Marks.{Committed};
 ghost use Rattle.verdict.specs.Inner.Edges.{no-edge, Drawn};
-ghost use Rattle.verdict.specs.Inner.ConflictEdges.{earlier-touch};
+ghost use Rattle.verdict.specs.Inner.ConflictEdges.{earlier-touch, Touches, Touched, conflicts-until};
 ghost use Rattle.verdict.specs.declared.answers.Checked.the-variants.{Passed};
 
 // Those whose earlier steps meet a step of this kind: the writers of the object, and for a write its readers too.
@@ -39,6 +40,48 @@ fn earlier(touched: &[u64; graph::ROWS], kind: u16, x: u16) -> [u64; graph::WORD
     [0u64; graph::WORDS]
 }
 
+// A step of t that touches x: an edge to t from each of those whose earlier steps it meets, and t among those that touched x in this way.
+fn touch(
+    matrix: &mut [u64; graph::ROWS],
+    touched: &mut [u64; graph::ROWS],
+    kind: u16,
+    t: u16,
+    x: u16,
+)
+    requires { ⌜ x < objects ⌝ }
+    ensures { λ _. ⌜ Touches (now (matrix .entry)) (now (touched .entry)) kind t x (now (matrix .exit)) (now (touched .exit)) ⌝ }
+{
+    let before = earlier(touched, kind, x);
+    graph::join(matrix, before, index(t));
+    let one = graph::with_vertex([0u64; graph::WORDS], index(t));
+    graph::join(touched, one, touched_row(kind, x));
+}
+
+// The edges that end at step i, and step i noted.
+fn mark_step(
+    log: &[u16],
+    matrix: &mut [u64; graph::ROWS],
+    touched: &mut [u64; graph::ROWS],
+    part: &[u64; graph::WORDS],
+    i: usize,
+)
+    requires { ⌜ (log-refusal (now log) ≡ Passed) × (4 * i + 4 ≤ length (now log)) × Committed (now log) (now part)
+        × Drawn (conflicts-until (now log) i) (now matrix) × Touched (now log) i (now touched) ⌝ }
+    ensures { λ _. ⌜ Drawn (conflicts-until (now (log .entry)) (suc i)) (now (matrix .exit)) × Touched (now (log .entry)) (suc i) (now (touched .exit)) ⌝ }
+{
+    let step = step_at(log, i);
+    if !takes_part(part, step.tx) {
+        return;
+    }
+    if step.kind == Step::READ {
+        touch(matrix, touched, Step::READ, step.tx, step.obj);
+        return;
+    }
+    if step.kind == Step::WRITE {
+        touch(matrix, touched, Step::WRITE, step.tx, step.obj);
+    }
+}
+
 // Draws the edges of the conflict graph in rows that have none: each step of a committed transaction ends an edge from those whose earlier steps it meets.
 pub(crate) fn draw(log: &[u16], matrix: &mut [u64; graph::ROWS], part: &[u64; graph::WORDS])
     requires { ⌜ (log-refusal (now log) ≡ Passed) × Committed (now log) (now part) × Drawn no-edge (now matrix) ⌝ }
@@ -46,16 +89,10 @@ pub(crate) fn draw(log: &[u16], matrix: &mut [u64; graph::ROWS], part: &[u64; gr
 {
     let n = log.len() / 4;
     let mut touched = [0u64; graph::ROWS];
-    let mut j = 0;
-    while j < n {
-        let step = step_at(log, j);
-        if takes_part(part, step.tx) {
-            let before = earlier(&touched, step.kind, step.obj);
-            graph::join(matrix, before, index(step.tx));
-            let one = graph::with_vertex([0u64; graph::WORDS], index(step.tx));
-            graph::join(&mut touched, one, touched_row(step.kind, step.obj));
-        }
-        j += 1;
+    let mut i = 0;
+    while i < n {
+        mark_step(log, matrix, &mut touched, part, i);
+        i += 1;
     }
 }
 

@@ -5,7 +5,7 @@ ghost use mathlib.Core.Path.{_≡_};
 ghost use Prim.Native.Nat.{suc, _≤_, _<_};
 ghost use lib.ListN.{length};
 ghost use Rattle.verdict.specs.Limits.{transactions, objects};
-ghost use Rattle.verdict.specs.Inner.Reasons.{number-if, offered, Ring, Before};
+ghost use Rattle.verdict.specs.Inner.Reasons.{reason-number, number-if, offered, Ring, Before};
 
 // The kinds of a dependency: from a write to a write, from a write to a read, from a read to a write.
 pub const WW: u16 = 1;
@@ -34,13 +34,21 @@ pub(crate) fn before_each(members: &[u16]) -> [u16; Transaction::TABLE]
     before
 }
 
-// The number of a reason, if it fits: the lowest object goes first, and on one object the lowest kind.
+// The number of a reason: the lowest object goes first, and on one object the lowest kind.
+pub(crate) fn reason_number(x: u16, kind: u16) -> u16
+    requires { ⌜ (x < objects) × (kind < 4) ⌝ }
+    ensures { λ r. ⌜ r ≡ reason-number x kind ⌝ }
+{
+    4 * x + kind
+}
+
+// The number of a reason, if it fits.
 pub(crate) fn number_if(fits: bool, x: u16, kind: u16) -> u16
     requires { ⌜ (x < objects) × (kind < 4) ⌝ }
     ensures { λ r. ⌜ r ≡ number-if fits x kind ⌝ }
 {
     if fits {
-        return 4 * x + kind;
+        return reason_number(x, kind);
     }
     NO_REASON
 }

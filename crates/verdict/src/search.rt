@@ -211,14 +211,8 @@ fn note_last(
     }
 }
 
-// What a search finds: whether there is an order, and the order.
-struct Search {
-    found: bool,
-    order: [u16; Transaction::SEARCHED],
-}
-
-// The first order of the n on the list that explains loosely and begins with what is placed. The array of those placed stands beside the run, since a
-// struct is copied as a whole where one is added to it.
+// Whether there is an order of the n on the list that explains loosely and begins with what is placed. The first is put into the lent array, behind those
+// placed, which stay as they are; a missed search may leave anything behind them.
 fn place(
     log: &[u16],
     need: &[u16; Transaction::PAIRS],
@@ -226,12 +220,14 @@ fn place(
     ones: &[u16; Transaction::SEARCHED],
     asks: &[u64; Transaction::SEARCHED],
     run: Run,
-    placed: [u16; Transaction::SEARCHED],
+    order: &mut [u16; Transaction::SEARCHED],
     last: &[u8; Object::TABLE],
     n: usize,
-) -> Search
-    requires { ⌜ Searchable (now log) (now need) (now writes) (now ones) (now asks) n × Placed (now log) (now ones) n run placed (now last) ⌝ }
-    ensures { λ r. ⌜ Searched (now (log .entry)) (placed-of run placed) n (r .found) (r .order) ⌝ }
+) -> bool
+    requires { ⌜ Searchable (now log) (now need) (now writes) (now ones) (now asks) n × Placed (now log) (now ones) n run (placed-of run (now order)) (now last)
+        × (length (now order) ≡ most-searched) ⌝ }
+    ensures { λ r. ⌜ Searched (now (log .entry)) (placed-of run (now (order .entry))) n r (now (order .exit))
+        × (placed-of run (now (order .exit)) ≡ placed-of run (now (order .entry))) × (length (now (order .exit)) ≡ most-searched) ⌝ }
 {
     let at = run.at;
     let mut rest = run.free;
@@ -239,22 +235,16 @@ fn place(
         let i = bits::lowest_mark(rest);
         if may_follow(need, ones, asks, last, i) {
             let next = with_placed(run, i);
-            let mut more = placed;
-            more[at] = ones[i];
+            order[at] = ones[i];
             let mut after = *last;
             note_last(&mut after, writes, ones, i);
-            let behind = place(log, need, writes, ones, asks, next, more, &after, n);
-            let found = behind.found;
-            if found {
-                return behind;
+            if place(log, need, writes, ones, asks, next, order, &after, n) {
+                return true;
             }
         }
         rest = bits::without_mark(rest, i);
     }
-    Search {
-        found: at == n,
-        order: placed,
-    }
+    at == n
 }
 
 // The first order that explains a clean, well-formed log loosely, or that there is none, by who committed and what each transaction writes. Where
@@ -276,17 +266,25 @@ pub(crate) fn find_order(
     let need = need_table(log, &part);
     let asks = all_needed(&need, &ones, left);
     let last = [0u8; Object::TABLE];
-    let placed = [0u16; Transaction::SEARCHED];
+    let mut order = [0u16; Transaction::SEARCHED];
     let every_place: u64 = (1 << left) - 1;
     let run = Run {
         free: every_place,
         at: 0,
     };
-    let result = place(log, &need, writes, &ones, &asks, run, placed, &last, left);
-    let found = result.found;
+    let found = place(
+        log,
+        &need,
+        writes,
+        &ones,
+        &asks,
+        run,
+        &mut order,
+        &last,
+        left,
+    );
     if !found {
         return without_members(Answer::None);
     }
-    let order = result.order;
     an_order(&order[..left])
 }

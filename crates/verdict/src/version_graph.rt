@@ -30,14 +30,14 @@ ghost use Rattle.verdict.specs.Judgement.{Holds};
 ghost use Rattle.verdict.specs.Version.{version-edge, Version};
 ghost use Rattle.verdict.specs.Call.{VersionCall};
 ghost use Rattle.verdict.specs.Inner.Marks.{Committed};
-ghost use Rattle.verdict.specs.Inner.Edges.{no-edge, EdgesAdded, Drawn};
+ghost use Rattle.verdict.specs.Inner.Edges.{no-edge, EdgeAdded, Drawn};
 ghost use Rattle.verdict.specs.Inner.NextWriters.{NextWriters};
 ghost use Rattle.verdict.specs.Inner.VersionEdges.{versions-until};
 ghost use Rattle.verdict.specs.Inner.Checking.{Learned};
 ghost use Rattle.verdict.specs.declared.answers.Checked.the-variants.{Passed};
 
-// The edges of a step that reads or writes version v of x: from v's writer to t, and from t to the writer of the version after it.
-fn mark_version(
+// The edge from t to the writer of the version of x after v's.
+fn join_next(
     matrix: &mut [u64; graph::ROWS],
     next: &[u8; Transaction::PAIRS],
     t: u16,
@@ -45,10 +45,9 @@ fn mark_version(
     v: u16,
 )
     requires { ⌜ (length (now matrix) ≡ row-words) × (v ≤ transactions) × (x < objects) ⌝ }
-    ensures { λ _. ⌜ EdgesAdded (now (matrix .entry)) v t (getD (now (next .entry)) (v * objects + x) 0) (now (matrix .exit)) ⌝ }
+    ensures { λ _. ⌜ EdgeAdded (now (matrix .entry)) t (getD (now (next .entry)) (v * objects + x) 0) (now (matrix .exit)) ⌝ }
 {
     let then = next_of(next, v, x);
-    join(matrix, v, t);
     join(matrix, t, then);
 }
 
@@ -69,11 +68,12 @@ fn mark_step(
         return;
     }
     if step.kind == Step::READ {
-        mark_version(matrix, next, step.tx, step.obj, step.src);
+        join(matrix, step.src, step.tx);
+        join_next(matrix, next, step.tx, step.obj, step.src);
         return;
     }
     if step.kind == Step::WRITE {
-        mark_version(matrix, next, step.tx, step.obj, step.tx);
+        join_next(matrix, next, step.tx, step.obj, step.tx);
     }
 }
 

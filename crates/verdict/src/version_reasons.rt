@@ -8,8 +8,8 @@ use crate::reasons::RW;
 use crate::reasons::WR;
 use crate::reasons::WW;
 use crate::reasons::before_each;
-use crate::reasons::number_if;
 use crate::reasons::offer;
+use crate::reasons::reason_number;
 use crate::step::Step;
 use crate::step::step_at;
 use crate::tables::next_of;
@@ -45,8 +45,9 @@ fn offer_edge(
     ensures { λ _. ⌜ (length (now (best .exit)) ≡ suc transactions) × ((c : List ℕ) (on : ℕ → ℕ → ℕ → ℕ → Bool) → Before c (now (before .entry)) → Best c on (now (best .entry))
         → Best c (with-edge on a b x kind) (now (best .exit))) ⌝ }
 {
-    let fits = before[index(b)] == a;
-    offer(best, a, number_if(fits, x, kind));
+    if before[index(b)] == a {
+        offer(best, a, reason_number(x, kind));
+    }
 }
 
 // Offers the edges of step i.

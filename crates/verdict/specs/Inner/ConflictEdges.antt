@@ -4,10 +4,10 @@ use mathlib.Core.Bool.{Bool}
 use mathlib.Core.Logic.{_⊎_}
 use mathlib.Core.List.{List}
 use Prim.Native.Nat.{ℕ, suc, _+_, _<_}
-use lib.ListN.{length}
-use Rattle.words.specs.Tests.{_is_, _and_, _or_, fails, if_then_else_, some}
-use Rattle.graph.specs.Matrix.{row-words, in-row}
-use Rattle.verdict.specs.Limits.{objects}
+use lib.ListN.{length, replicate}
+use Rattle.words.specs.Tests.{_is_, _upto_, _and_, _or_, fails, if_then_else_, some}
+use Rattle.graph.specs.Matrix.{row-words, takes-part, in-row, Joins}
+use Rattle.verdict.specs.Limits.{transactions, objects}
 use Rattle.verdict.specs.Log.{steps, kind, tx, obj, committed}
 use Rattle.verdict.specs.Inner.Edges.{one-edge}
 
@@ -18,6 +18,15 @@ touched-row k x = if k is 2 then suc x else if k is 3 then suc (x + objects) els
 -- a is among those whose earlier steps meet a step of kind k on x: the writers of x, and for a write its readers too
 unfoldable pub earlier-touch : List ℕ → ℕ → ℕ → ℕ → Bool
 earlier-touch rows k x a = (k is 2 or k is 3) and in-row rows (touched-row 3 x) a or k is 3 and in-row rows (touched-row 2 x) a
+
+-- a step of t of kind k on x: the rows of m′ have beside those of m an edge to t from each of those whose earlier steps it meets, and the touched rows t in that of its kind
+pub record Touches (m touched : List ℕ) (k t x : ℕ) (m′ touched′ : List ℕ) : Type 0 where
+  pub before : List ℕ
+  pub known : (a : ℕ) → takes-part transactions before a ≡ earlier-touch touched k x a
+  pub joins : Joins m before t m′
+  pub one : List ℕ
+  pub single : (a : ℕ) → takes-part transactions one a ≡ (a is t and 1 upto t and t upto transactions or takes-part transactions (replicate 2 0) a)
+  pub noted : Joins touched one (touched-row k x) touched′
 
 module _ (log : List ℕ) where
   -- step i, of a committed transaction, is a's, and touches x in the way of kind k

@@ -28,11 +28,6 @@ pub record EdgeAdded (m : List ℕ) (s t : ℕ) (m′ : List ℕ) : Type 0 where
   pub size : length m′ ≡ length m
   pub mark : (a b : ℕ) → Pair a b → in-row m′ b a ≡ (in-row m b a or one-edge s t a b)
 
--- .. and the edges from v to t, and from t to u
-pub record EdgesAdded (m : List ℕ) (v t u : ℕ) (m′ : List ℕ) : Type 0 where
-  pub size : length m′ ≡ length m
-  pub mark : (a b : ℕ) → Pair a b → in-row m′ b a ≡ (in-row m b a or (one-edge v t a b or one-edge t u a b))
-
 -- for all pairs at once: a is marked in the row of b exactly where an edge leads from a to b
 pub record Drawn (edge : ℕ → ℕ → Bool) (m : List ℕ) : Type 0 where
   pub size : length m ≡ row-words

@@ -97,9 +97,9 @@ module _ (log : List ℕ) where
     pub writers : (x : ℕ) → x < objects → getD last x 0 ≡ ran x 0 p
 
   -- .. and of the n on the list those are marked that are left, and no others
-  pub record Placed (ones : List ℕ) (n : ℕ) (run : Run) (order last : List ℕ) : Type 0 where
-    pub so-far : Replayed (placed-of run order) last
-    pub left : (i : ℕ) → i < n → marked (run .free) i ≡ fails (member (getD ones i 0) (placed-of run order))
+  pub record Placed (ones : List ℕ) (n : ℕ) (run : Run) (p last : List ℕ) : Type 0 where
+    pub so-far : Replayed p last
+    pub left : (i : ℕ) → i < n → marked (run .free) i ≡ fails (member (getD ones i 0) p)
     pub within : (i : ℕ) → marked (run .free) i ≡ true → i < n
     pub fills : run .at + count n (marked (run .free)) ≡ n
 

@@ -15,7 +15,7 @@ use Rattle.verdict.specs.Inner.ConflictEdges.{touched-row, Touched}
 use Rattle.verdict.specs.Inner.ConflictReasons.{conflict-until}
 use Rattle.verdict.proofs.WellFormed.{well-formed, object-within, ranges}
 use Rattle.verdict.proofs.Matrices.{told-committed}
-use Rattle.verdict.proofs.ConflictGraph.{untouched, touches-none, touched-more}
+use Rattle.verdict.proofs.ConflictGraph.{untouched, open-step, touches-none, touched-more}
 use Rattle.verdict.proofs.LeastReasons.{best-none}
 use Rattle.verdict.proofs.ConflictReasons.{ends-nothing, ends-offered, all-conflict-reasons}
 use Rattle.verdict.proofs.conflict_reasons.conflict_reasons.Statement.{statement}
@@ -131,7 +131,7 @@ loop-again c =
       ⊎-elim
           (λ w. rw (w .10, add-one (j at)) (touched-more _ _ (sym (told (c .before)) ∙ w .0 .taken) (in-range at) (known .3) (object at) (w .5 .ensures ∙ step .tx-is) (w .6 .ensures)
           (w .8 .ensures ∙ ap₂ touched-row (step .kind-is) (step .obj-is)) (w .9 .ensures)))
-          (λ w. rw (w .1, add-one (j at)) (touches-none _ _ (sym (told (c .before)) ∙ w .0 .left) (known .3))) (c .if1 .came),
+          (λ w. rw (w .1, add-one (j at)) (touches-none _ (open-step _ _ (sym (told (c .before)) ∙ w .0 .left)) (known .3))) (c .if1 .came),
     )
 
 returns : tie.Need-returns Inv-loop μ-loop

@@ -1,12 +1,13 @@
 -- `find_order` meets its contract.
-use mathlib.Core.Path.{_≡_, sym}
-use Prim.Native.Nat.{_≤_}
+use mathlib.Core.Path.{_≡_, sym, subst}
+use mathlib.Core.List.{List}
+use Prim.Native.Nat.{ℕ, _≤_}
 use native.Mathlib.Omega.{arith}
 use borrow.Author.Tests.{not-true, not-false}
 use lib.ListN.{length, take}
 use lib.Seq.{length-take-le}
 use Rattle.bits.proofs.Marks.{power-above}
-use Rattle.verdict.specs.Limits.{most-searched}
+use Rattle.verdict.specs.Limits.{transactions, most-searched}
 use Rattle.verdict.proofs.Threes.{held}
 use Rattle.verdict.proofs.Memberless.{holds-none}
 use Rattle.verdict.proofs.Versions.{committed-range}
@@ -27,18 +28,15 @@ abbrev asked : tie.After-asks → tie.After-all-needed
 asked c = c .before .before .before
 
 abbrev found-list : tie.After-place → tie.After-list-committed
-found-list c = listed (asked (c .before .before) .before .before .before)
+found-list c = listed (asked (c .before .before .before) .before .before .before)
 
 -- no more are left than the search takes
 few : (c : tie.After-list-committed) → c .list-committed .result .count ≤ most-searched
 few c = let q = entry c .pre in few-enough _ (c .list-committed .ensures) (q .0) (q .2)
 
 -- the order has room for all that the search takes
-room : (c : tie.After-place) → length (c .place .result .order) ≡ most-searched
-room c = search needs
-
-slice : (c : tie.After-place) → let n = found-list c .list-committed .result .count in n ≡ length (take n (c .place .result .order))
-slice c = sym (length-take-le _ _ (omega (arith, few (found-list c), room c)))
+slice : (c : tie.After-place) (order : List ℕ) → length order ≡ most-searched → let n = found-list c .list-committed .result .count in n ≡ length (take n order)
+slice c order room = sym (length-take-le _ _ (omega (arith, few (found-list c))))
 
 list-committed-requires : tie.Need-list-committed-requires
 list-committed-requires c κs = search needs
@@ -68,12 +66,13 @@ sub-every-place c = power-above _ (omega (arith, few (listed (c .before .before 
 
 place-requires : tie.Need-place-requires
 place-requires c κs =
-    let a = asked (c .before) in
+    let a = asked (c .before .before) in
     let made = a .before .before .before in
     let l = listed made in
     let q = entry l .pre in (
       record { passed = q .0; clean = q .1; needs = made .need-table .ensures; written = q .4; list = l .list-committed .ensures; asked = a .all-needed .ensures; few = few l },
       nothing-placed _ _ (few l),
+      search needs,
     )
 
 without-members-requires-2 : tie.Need-without-members-requires-2
@@ -83,22 +82,22 @@ returns-2 : tie.Need-returns-2
 returns-2 c =
     let p = c .before .before in
     let q = entry (found-list p) .pre in
-    holds-none (none-found _ _ _ (q .1) (rw (not-true (p .place .result .found) (c .before .if2 .taken)) at (p .place .ensures))) (c .without-members2 .ensures)
+    holds-none (none-found _ _ _ (q .1) (rw (not-true (p .place .result) (c .before .if2 .taken)) at (p .place .ensures .0))) (c .without-members2 .ensures)
 
 array-share-prefix-order : tie.Need-array-share-prefix-order
-array-share-prefix-order c = let p = c .before .before in omega (arith, few (found-list p), room p)
+array-share-prefix-order c = let p = c .before in omega (arith, few (found-list p), p .place .ensures .2)
 
 slice-aggregate-an-order : tie.Need-slice-aggregate-an-order
-slice-aggregate-an-order c = slice (c .before .before .before)
+slice-aggregate-an-order c = let p = c .before .before in slice p _ (p .place .ensures .2)
 
 an-order-requires : tie.Need-an-order-requires
-an-order-requires c κs = let p = c .before .before .before in omega (arith, slice p, few (found-list p))
+an-order-requires c κs = let p = c .before .before in subst (λ (k : ℕ). k ≤ transactions) (slice p _ (p .place .ensures .2)) (omega (arith, few (found-list p)))
 
 returns-3 : tie.Need-returns-3
 returns-3 c =
-    let e = c .before .before .before in
+    let e = c .before .before in
     let p = e .before in
-    held _ (order-found _ _ _ (rw (not-false (p .place .result .found) (e .if2 .left)) at (p .place .ensures))) (c .an-order .ensures)
+    held _ (order-found _ _ _ (rw (not-false (p .place .result) (e .if2 .left)) at (p .place .ensures .0))) (c .an-order .ensures)
 
 pub find-order-spec : {M : Type 1} → statement M
 find-order-spec =

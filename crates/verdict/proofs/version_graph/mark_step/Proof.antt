@@ -62,22 +62,27 @@ takes-part-requires c κs = rw (c .step-at .ensures .tx-is) (well c .range (i c)
 returns : tie.Need-returns
 returns c = let at = c .before .before in none-drawn _ _ (entry at .pre .4) (open-step _ (i at) (sym (told (c .before)) ∙ not-true _ (c .if1 .taken)))
 
-mark-version-requires : tie.Need-mark-version-requires
-mark-version-requires c κs =
-    let reading = c .before in
+join-requires : tie.Need-join-requires
+join-requires c κs = entry (stepped (c .before .before)) .pre .4 .size
+
+join-next-requires : tie.Need-join-next-requires
+join-next-requires c κs =
+    let joined = c .before in
+    let reading = joined .before .before in
     let at = stepped (reading .before) in
-    (entry at .pre .4 .size, rw (at .step-at .ensures .src-is) (well at .sources (i at) (inside at) (is-read reading)), object at)
+    (joined .join .ensures .size ∙ entry at .pre .4 .size, rw (at .step-at .ensures .src-is) (well at .sources (i at) (inside at) (is-read reading)), object at)
 
 returns-2 : tie.Need-returns-2
 returns-2 c =
-    let reading = c .before .before in
+    let joined = c .before .before in
+    let reading = joined .before .before in
     let at = stepped (reading .before) in
     let step = at .step-at .ensures in
     read-drawn _ _ (entry at .pre .4) (by-committed (reading .before .before)) (is-read reading) (step .src-is) (step .tx-is)
-    (next-read (well at) (entry at .pre .3) (i at) (inside at) (is-read reading) (step .src-is) (step .obj-is) refl) (c .mark-version .ensures)
+    (next-read (well at) (entry at .pre .3) (i at) (inside at) (is-read reading) (step .src-is) (step .obj-is) refl) (joined .join .ensures) (c .join-next .ensures)
 
-mark-version-requires-2 : tie.Need-mark-version-requires-2
-mark-version-requires-2 c κs =
+join-next-requires-2 : tie.Need-join-next-requires-2
+join-next-requires-2 c κs =
     let writing = c .before in
     let at = stepped (writing .before .before .before) in
     (entry at .pre .4 .size, rw (at .step-at .ensures .tx-is) (well at .range (i at) (inside at) .1), object at)
@@ -90,7 +95,7 @@ returns-3 c =
     let step = at .step-at .ensures in
     let is-write = sym (step .kind-is) ∙ writing .if3 .taken in
     write-drawn _ _ (entry at .pre .4) (by-committed (other .before .before)) is-write (step .tx-is)
-    (next-write (well at) (entry at .pre .3) (i at) (inside at) is-write (step .tx-is) (step .obj-is) refl) (c .mark-version2 .ensures)
+    (next-write (well at) (entry at .pre .3) (i at) (inside at) is-write (step .tx-is) (step .obj-is) refl) (c .join-next2 .ensures)
 
 returns-4 : tie.Need-returns-4
 returns-4 c =
@@ -105,8 +110,9 @@ mark-step-spec =
     step-at-requires
     takes-part-requires
     returns
-    mark-version-requires
+    join-requires
+    join-next-requires
     returns-2
-    mark-version-requires-2
+    join-next-requires-2
     returns-3
     returns-4)
