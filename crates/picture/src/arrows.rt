@@ -95,6 +95,11 @@ fn past_third(a: u32, b: u32) -> u32 {
     ((5 * a as u64 + 3 * b as u64) / 8) as u32
 }
 
+// A place on the way from a to b, at four ninths of it.
+fn before_half(a: u32, b: u32) -> u32 {
+    ((5 * a as u64 + 4 * b as u64) / 9) as u32
+}
+
 // Prints the line of an arrow. It leaves its lane straight down or up, and comes to the other one so, too.
 fn print_line(arrow: Arrow) {
     let near = quarter(arrow.y1, arrow.y2);
@@ -125,14 +130,27 @@ fn open_sign(page: Page, x: u32, y: u32) {
     );
 }
 
-// Prints the reason of an arrow on its line, nearer to its first end.
-fn print_reason(page: Page, arrow: Arrow, reason: Reason) {
-    let kind = reason.kind;
+// Opens it on the line of an arrow, nearer to its first end; where lanes are narrow not so near, since the source of a read stands there.
+fn open_reason(page: Page, arrow: Arrow) {
+    if page.lanes <= 6 {
+        open_sign(
+            page,
+            sixth(arrow.x1, arrow.x2),
+            past_third(arrow.y1, arrow.y2),
+        );
+        return;
+    }
     open_sign(
         page,
-        sixth(arrow.x1, arrow.x2),
-        past_third(arrow.y1, arrow.y2),
+        past_third(arrow.x1, arrow.x2),
+        before_half(arrow.y1, arrow.y2),
     );
+}
+
+// Prints the reason of an arrow.
+fn print_reason(page: Page, arrow: Arrow, reason: Reason) {
+    let kind = reason.kind;
+    open_reason(page, arrow);
     io::write_all(
         STDOUT_FILENO,
         b"<rect x='-23' y='-10' width='46' height='20' rx='4'/>",

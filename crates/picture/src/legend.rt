@@ -96,7 +96,7 @@ pub(crate) fn print_order_meaning() {
 pub(crate) fn print_cycle_meaning() {
     io::write_all(
         STDOUT_FILENO,
-        b"<text x='0' y='85'>An arrow: this one must come before that one. They go round: no order keeps all of them.</text>\n<text x='0' y='109'>ww:0 that one overwrites what this one wrote; wr:0 that one reads what this one wrote;</text>\n<text x='0' y='133'>rw:0 this one reads object 0 as it was before that one wrote it.</text>\n",
+        b"<text x='0' y='85'>An arrow: this one must come before that one. They lead round in a circle: no order follows them all.</text>\n<text x='0' y='109'>ww:0 that one overwrites what this one wrote; wr:0 that one reads what this one wrote;</text>\n<text x='0' y='133'>rw:0 this one reads object 0 as it was before that one wrote it.</text>\n",
     );
 }
 

@@ -19,10 +19,35 @@ pub(crate) fn few_arrows(page: Page) -> bool {
     page.cycle <= 12
 }
 
+// Whether there are so many lanes that the page, high as it is, is made as wide as a sheet of paper so high.
+fn many_lanes(page: Page) -> bool {
+    60 < page.lanes
+}
+
+// How far to the right a step stands where there are many lanes.
+fn far_across(page: Page, i: u16) -> u32
+    ensures { λ r. ⌜ r ≤ 7000000 ⌝ }
+{
+    let place = i as u32;
+    if page.steps <= 120 {
+        return 100 + 26 * place;
+    }
+    if page.steps <= 250 {
+        return 100 + 14 * place;
+    }
+    if page.steps <= 500 {
+        return 100 + 8 * place;
+    }
+    100 + 4 * place
+}
+
 // How far to the right a step stands.
 pub(crate) fn across(page: Page, i: u16) -> u32
     ensures { λ r. ⌜ r ≤ 7000000 ⌝ }
 {
+    if many_lanes(page) {
+        return far_across(page, i);
+    }
     let place = i as u32;
     if page.steps <= 20 {
         return 100 + 50 * place;
@@ -83,11 +108,21 @@ pub(crate) fn line(page: Page, k: u32) -> u32
     46 * k
 }
 
-// How many lines the title has room for: six members of a cycle a line.
+// The line of the title, counted from 0, on which member i of a cycle stands: six a line, and three times as many where the page is wide.
+pub(crate) fn title_line(page: Page, i: u16) -> u32
+    ensures { λ r. ⌜ r ≤ 11000 ⌝ }
+{
+    if many_lanes(page) {
+        return i as u32 / 18;
+    }
+    i as u32 / 6
+}
+
+// How many lines the title has room for.
 fn lines_above(page: Page) -> u32
     ensures { λ r. ⌜ r ≤ 20000 ⌝ }
 {
-    1 + page.cycle as u32 / 6
+    1 + title_line(page, page.cycle)
 }
 
 // The line below the lanes where it begins to be said what the marks mean: behind an order, sixteen members a line.
@@ -123,6 +158,9 @@ fn text_width(page: Page) -> u32
 {
     if page.steps <= 60 {
         return 700;
+    }
+    if many_lanes(page) {
+        return 3200;
     }
     1400
 }
@@ -163,7 +201,7 @@ pub(crate) fn number_across(page: Page) -> u32 {
 
 // How many times as large as the smallest a mark without a label is.
 pub(crate) fn mark_size(page: Page) -> u32 {
-    if page.steps <= 120 {
+    if page.steps <= 120 || (many_lanes(page) && page.steps <= 500) {
         return 2;
     }
     1

@@ -6,6 +6,7 @@ use crate::page::down;
 use crate::page::labelled;
 use crate::page::line;
 use crate::page::numbers_down;
+use crate::page::title_line;
 use libc::STDOUT_FILENO;
 use verdict::Transaction;
 use verdict::WR;
@@ -24,14 +25,14 @@ fn break_line(y: u32) {
     print_filled(b"</text>\n<text class='words' x='20' y='%'>", &[y]);
 }
 
-// Prints member i of a cycle with its reason, six a line.
+// Prints member i of a cycle with its reason.
 fn print_member(page: Page, witness: &[u16; Transaction::WITNESS], i: u16) {
     let a = 3 * i as usize;
     let tx = entry(witness, a) as u32;
     let kind = entry(witness, a + 1);
     let obj = entry(witness, a + 2) as u32;
-    if 0 < i && i % 6 == 0 {
-        break_line(line(page, i as u32 / 6 + 1));
+    if 0 < i && title_line(page, i - 1) < title_line(page, i) {
+        break_line(line(page, title_line(page, i) + 1));
     }
     match kind {
         WW => print_filled(b" % ww:%", &[tx, obj]),
