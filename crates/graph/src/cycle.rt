@@ -7,7 +7,7 @@ ghost use Prim.Native.Nat.{ℕ, suc, _+_, _≤_, _<_};
 ghost use lib.ListN.{length};
 ghost use Rattle.words.specs.Tests.{_below_, _and_, some, lowest};
 ghost use Rattle.graph.specs.Cycle.{is-cycle};
-ghost use Rattle.graph.specs.Matrix.{vertices, takes-part, joined};
+ghost use Rattle.graph.specs.Matrix.{vertices, row-words, takes-part, joined};
 ghost use Rattle.graph.specs.Inner.Laying.{laid};
 ghost use Rattle.graph.specs.Inner.Distances.{pick, far, Around, Layers, Least, Cycled};
 use super::ROWS;
@@ -74,7 +74,7 @@ fn closing(
     s: usize,
     limit: usize,
 ) -> usize
-    requires { ⌜ (length (now layers) ≡ 256) × (1 ≤ s) × (s ≤ vertices) × (1 ≤ limit) × (limit ≤ vertices) ⌝ }
+    requires { ⌜ (length (now layers) ≡ row-words) × (1 ≤ s) × (s ≤ vertices) × (1 ≤ limit) × (limit ≤ vertices) ⌝ }
     ensures { λ r. ⌜ Around (joined vertices (now (m .entry)) part) s limit r (now (layers .exit)) ⌝ }
 {
     let higher = above(part, s);
@@ -108,7 +108,7 @@ fn around(
     s: usize,
     limit: usize,
 ) -> usize
-    requires { ⌜ (length (now layers) ≡ 256) × (1 ≤ s) × (s ≤ vertices) × (limit ≤ vertices)
+    requires { ⌜ (length (now layers) ≡ row-words) × (1 ≤ s) × (s ≤ vertices) × (limit ≤ vertices)
         × ((t : ℕ) → takes-part vertices rises t ≡ some (suc vertices) (λ u. t below u and joined vertices (now m) part t u)) ⌝ }
     ensures { λ r. ⌜ Around (joined vertices (now (m .entry)) part) s limit r (now (layers .exit)) ⌝ }
 {
@@ -123,8 +123,8 @@ fn around(
 
 // The shortest closed walk, and of these the one whose lowest vertex is lowest.
 fn best(layers: &mut [u64; ROWS], m: &[u64; ROWS], part: [u64; WORDS]) -> Ring
-    requires { ⌜ length (now layers) ≡ 256 ⌝ }
-    ensures { λ r. ⌜ (length (now (layers .exit)) ≡ 256) × Least (joined vertices (now (m .entry)) part) (suc vertices) (r .len) (r .start) ⌝ }
+    requires { ⌜ length (now layers) ≡ row-words ⌝ }
+    ensures { λ r. ⌜ (length (now (layers .exit)) ≡ row-words) × Least (joined vertices (now (m .entry)) part) (suc vertices) (r .len) (r .start) ⌝ }
 {
     let rises = rising(m, part);
     let mut len: usize = VERTICES;

@@ -2,7 +2,7 @@
 ghost use mathlib.Core.Path.{_≡_};
 ghost use Prim.Native.Nat.{ℕ, _≤_};
 ghost use lib.ListN.{length};
-ghost use Rattle.graph.specs.Matrix.{vertices, takes-part, in-row, Joins};
+ghost use Rattle.graph.specs.Matrix.{vertices, row-words, takes-part, in-row, Joins};
 ghost use Rattle.graph.specs.Inner.Rows.{PutRow};
 use super::ROWS;
 use super::WORDS;
@@ -25,7 +25,7 @@ pub fn join(m: &mut [u64; ROWS], those: [u64; WORDS], b: usize)
 
 // The set becomes the row of b.
 pub(crate) fn put_row(m: &mut [u64; ROWS], those: [u64; WORDS], b: usize)
-    requires { ⌜ (length (now m) ≡ 256) × (1 ≤ b) × (b ≤ vertices) ⌝ }
+    requires { ⌜ (length (now m) ≡ row-words) × (1 ≤ b) × (b ≤ vertices) ⌝ }
     ensures { λ _. ⌜ PutRow (now (m .entry)) those b (now (m .exit)) ⌝ }
 {
     let i = (b - 1) * WORDS;

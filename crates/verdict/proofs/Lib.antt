@@ -53,3 +53,4 @@ pub mod NextLaws
 pub mod Held
 pub mod Listing
 pub mod Samples
+pub mod OneLog
