@@ -6,7 +6,6 @@ use mathlib.Core.List.{List, [], _∷_, _++_, append-nil, append-assoc}
 use Prim.Native.Nat.{ℕ, suc, _+_, _*_, _≤_, _<_}
 use native.Mathlib.Omega.{arith}
 use lib.ListN.{length, getD, set, take}
-use lib.Seq.{take-take, take-append-seam}
 use Rattle.words.specs.Tests.{_is_, _below_, _and_, fails, some, every, count, lowest}
 use Rattle.words.specs.Lists.{member}
 use Rattle.words.specs.First.{dictionary, Never}
@@ -29,14 +28,13 @@ member-one a t p n =
     same-test (λ e. ⊎-elim (λ l. l) (λ (l : member a (t ∷ []) ≡ true). ⊎-elim (λ (z : a ≡ t). absurd (n z)) (λ (z : member a [] ≡ true). absurd (false≢true (unfold member in z))) (member→ a t [] l)) (member-either a p (t ∷ []) e))
     (λ e. member-left a p (t ∷ []) e)
 
--- one more is placed behind the others; and what was placed before it, from there
-module _ {i : ℕ} {run next : Run} (one : OneMore i run next) (t : ℕ) where
-  pub behind-placed : (order p : List ℕ) → run .at < length order → placed-of run order ≡ p → placed-of next (set order (run .at) t) ≡ p ++ t ∷ []
-  behind-placed order p h e = rw (one .more, ← e) (take-next order (run .at) t h)
+-- one more is placed behind the others
+pub behind-placed : {i : ℕ} {run next : Run} → OneMore i run next → (t : ℕ) (order p : List ℕ) → run .at < length order → placed-of run order ≡ p → placed-of next (set order (run .at) t) ≡ p ++ t ∷ []
+behind-placed {run = run} one t order p h e = rw (one .more, ← e) (take-next order (run .at) t h)
 
-  pub before-placed : (order p : List ℕ) → length p ≡ run .at → placed-of next order ≡ p ++ t ∷ [] → placed-of run order ≡ p
-  before-placed order p size e =
-      sym (take-take (run .at) (next .at) order (omega (arith, one .more))) ∙ ap (take (run .at)) e ∙ ap (λ (k : ℕ). take k (p ++ t ∷ [])) (sym size) ∙ take-append-seam p (t ∷ [])
+-- where none is found, the array says nothing
+pub missed-all : {log p : List ℕ} {n : ℕ} {order other : List ℕ} → Searched log p n false order → Searched log p n false other
+missed-all (missed g) = missed g
 
 module _ {log table writes ones asks : List ℕ} {n : ℕ} (known : Searchable log table writes ones asks n) where
   well : Well transactions log

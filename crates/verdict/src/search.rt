@@ -211,8 +211,8 @@ fn note_last(
     }
 }
 
-// Whether there is an order of the n on the list that explains loosely and begins with what is placed. The first is put into the lent array, behind those
-// placed, which stay as they are; a missed search may leave anything behind them.
+// Whether there is an order of the n on the list that explains loosely and begins with what is placed. The first is put into the lent array, which says
+// nothing where there is none.
 fn place(
     log: &[u16],
     need: &[u16; Transaction::PAIRS],
@@ -220,14 +220,14 @@ fn place(
     ones: &[u16; Transaction::SEARCHED],
     asks: &[u64; Transaction::SEARCHED],
     run: Run,
-    order: &mut [u16; Transaction::SEARCHED],
+    placed: [u16; Transaction::SEARCHED],
     last: &[u8; Object::TABLE],
     n: usize,
+    order: &mut [u16; Transaction::SEARCHED],
 ) -> bool
-    requires { ⌜ Searchable (now log) (now need) (now writes) (now ones) (now asks) n × Placed (now log) (now ones) n run (placed-of run (now order)) (now last)
+    requires { ⌜ Searchable (now log) (now need) (now writes) (now ones) (now asks) n × Placed (now log) (now ones) n run (placed-of run placed) (now last)
         × (length (now order) ≡ most-searched) ⌝ }
-    ensures { λ r. ⌜ Searched (now (log .entry)) (placed-of run (now (order .entry))) n r (now (order .exit))
-        × (placed-of run (now (order .exit)) ≡ placed-of run (now (order .entry))) × (length (now (order .exit)) ≡ most-searched) ⌝ }
+    ensures { λ r. ⌜ Searched (now (log .entry)) (placed-of run placed) n r (now (order .exit)) × (length (now (order .exit)) ≡ most-searched) ⌝ }
 {
     let at = run.at;
     let mut rest = run.free;
@@ -235,16 +235,21 @@ fn place(
         let i = bits::lowest_mark(rest);
         if may_follow(need, ones, asks, last, i) {
             let next = with_placed(run, i);
-            order[at] = ones[i];
+            let mut more = placed;
+            more[at] = ones[i];
             let mut after = *last;
             note_last(&mut after, writes, ones, i);
-            if place(log, need, writes, ones, asks, next, order, &after, n) {
+            if place(log, need, writes, ones, asks, next, more, &after, n, order) {
                 return true;
             }
         }
         rest = bits::without_mark(rest, i);
     }
-    at == n
+    if at != n {
+        return false;
+    }
+    *order = placed;
+    true
 }
 
 // The first order that explains a clean, well-formed log loosely, or that there is none, by who committed and what each transaction writes. Where
@@ -266,6 +271,7 @@ pub(crate) fn find_order(
     let need = need_table(log, &part);
     let asks = all_needed(&need, &ones, left);
     let last = [0u8; Object::TABLE];
+    let placed = [0u16; Transaction::SEARCHED];
     let mut order = [0u16; Transaction::SEARCHED];
     let every_place: u64 = (1 << left) - 1;
     let run = Run {
@@ -279,9 +285,10 @@ pub(crate) fn find_order(
         &ones,
         &asks,
         run,
-        &mut order,
+        placed,
         &last,
         left,
+        &mut order,
     );
     if !found {
         return without_members(Answer::None);

@@ -8,15 +8,15 @@ use native.Mathlib.Omega.{arith}
 use borrow.Author.Needs.{needs}
 use borrow.Fn.Kinds.{In}
 use borrow.Fn.PlainCycle.{Measures, is as stays, falls, and}
-use lib.ListN.{length, length-set, getD, set}
-use lib.Seq.{length-take-le}
+use lib.ListN.{length, getD, set}
 use Rattle.words.specs.Tests.{_is_, count}
+use Rattle.words.proofs.Truth.{→is, →isnt}
 use Rattle.bits.specs.Word.{marked}
 use Rattle.bits.proofs.Walks.{turn, fewer}
 use Rattle.verdict.specs.Limits.{most-searched}
-use Rattle.verdict.specs.Inner.Placing.{may-follow, placed-of}
+use Rattle.verdict.specs.Inner.Placing.{may-follow, placed-of, Searched}
 use Rattle.verdict.proofs.Loosely.{Tried, tried-more}
-use Rattle.verdict.proofs.Placements.{behind-placed, before-placed, on-list, tried-none, not-next, room, one-placed, search-found, search-missed, search-over}
+use Rattle.verdict.proofs.Placements.{behind-placed, on-list, tried-none, not-next, room, one-placed, search-found, search-missed, search-over, missed-all}
 use Rattle.verdict.proofs.search.place.Reads as place
 use Rattle.verdict.proofs.search.place.Kinds as place-kinds
 use Rattle.bits.proofs.any_mark.Reads as any-mark-reads
@@ -34,10 +34,10 @@ abbrev μ-place : Measures 7 place-kinds.ps ℕ
 μ-place κs a = let b = a .1 .1 .1 .1 .1 in b .1 .1 .1 .0 - b .0 .at
 
 abbrev place-Inv-loop : place-lts.InvT-loop
-place-Inv-loop log need writes ones asks run order₀ last n at rest₀ order rest = (placed-of run order ≡ placed-of run order₀) × Tried log (placed-of run order₀) ones (run .free) rest × (length order ≡ most-searched)
+place-Inv-loop log need writes ones asks run placed last n order₀ at rest₀ order rest = Tried log (placed-of run placed) ones (run .free) rest × (length order ≡ most-searched)
 
 abbrev place-μ-loop : place-lts.MeasureT-loop
-place-μ-loop log need writes ones asks run order₀ last n at rest₀ order rest = count 64 (marked rest)
+place-μ-loop log need writes ones asks run placed last n order₀ at rest₀ order rest = count 64 (marked rest)
 
 -- a call with so many left, which relies on calls with fewer
 module _ (size : ℕ) where
@@ -56,6 +56,9 @@ module _ (size : ℕ) where
 
   abbrev At-loop : Type 0
   At-loop = place-lts.At-loop claims place-at place.Post place-Inv-loop place-μ-loop
+
+  abbrev Else1 : Type 0
+  Else1 = place-lts.Else1 claims place-at place.Post place-Inv-loop place-μ-loop
 
   abbrev After-lowest-mark : Type 0
   After-lowest-mark = place-lts.After-lowest-mark claims place-at place.Post place-Inv-loop place-μ-loop
@@ -88,14 +91,14 @@ module _ (size : ℕ) where
 
   -- what was placed when the call began
   abbrev so-far : Start → List ℕ
-  so-far s = placed-of (s .args .run) (s .args .order .now)
+  so-far s = placed-of (s .args .run) (s .args .placed)
 
   -- the one whose turn it is is left
   in-turn : (c : After-lowest-mark) → (c .lowest-mark .result < 64) × (marked (head c .loop .rest) (c .lowest-mark .result) ≡ true)
   in-turn c = turn _ (sym (c .before .before .any-mark .ensures) ∙ c .before .if1 .taken) (c .lowest-mark .ensures)
 
   is-left : (c : After-lowest-mark) → marked (entry (head c) .args .run .free) (c .lowest-mark .result) ≡ true
-  is-left c = head c .loop .inv .1 .part _ (in-turn c .1)
+  is-left c = head c .loop .inv .0 .part _ (in-turn c .1)
 
   on-the-list : (c : After-lowest-mark) → c .lowest-mark .result < entry (head c) .args .n
   on-the-list c = entry (head c) .pre .1 .1 .within _ (is-left c)
@@ -120,19 +123,19 @@ module _ (size : ℕ) where
       let q = entry (head now) .pre .1 in
       omega (arith, q .0 .few, room (q .0) (q .1) _ (is-left now) (follows c))
 
-  -- those placed are as many as is said
-  full : (c : Then2) → let s = entry (head (c .before .before)) in length (so-far s) ≡ s .args .run .at
-  full c = let s = entry (head (c .before .before)) in length-take-le _ _ (omega (arith, fits-in c, s .pre .1 .2))
+  -- the array of those placed is as long as the search takes
+  wide : (c : Then2) → length (entry (head (c .before .before)) .args .placed) ≡ most-searched
+  wide c = search needs
 
   -- the one that is placed now, and all that are placed then
   abbrev the-one : After-with-placed → ℕ
   the-one c = let now = this c in getD (entry (head now) .args .ones .now) (now .lowest-mark .result) 0
 
-  longer : (c : After-with-placed) → let at = head (this c) in placed-of (c .with-placed .result) (set (at .loop .order) (entry at .args .run .at) (the-one c)) ≡ so-far (entry at) ++ the-one c ∷ []
-  longer c = let at = head (this c) in behind-placed (c .with-placed .ensures) _ _ _ (omega (arith, fits-in (c .before), at .loop .inv .2)) (at .loop .inv .0)
+  longer : (c : After-with-placed) → let s = entry (head (this c)) in placed-of (c .with-placed .result) (set (s .args .placed) (s .args .run .at) (the-one c)) ≡ so-far s ++ the-one c ∷ []
+  longer c = behind-placed (c .with-placed .ensures) _ _ _ (omega (arith, fits-in (c .before), wide (c .before))) refl
 
   place-loop-holds : place-lts.Need-loop-holds claims place-at place.Post place-Inv-loop place-μ-loop
-  place-loop-holds c = let q = c .before .pre .1 in (refl, tried-none (q .0) (q .1), q .2)
+  place-loop-holds c = let q = c .before .pre .1 in (tried-none (q .0) (q .1), q .2)
 
   place-any-mark-requires : place-lts.Need-any-mark-requires claims place-at place.Post place-Inv-loop place-μ-loop
   place-any-mark-requires c κs = search needs
@@ -148,17 +151,17 @@ module _ (size : ℕ) where
   place-with-placed-requires : place-lts.Need-with-placed-requires claims place-at place.Post place-Inv-loop place-μ-loop
   place-with-placed-requires c κs = fits-in c
 
-  place-mul-order : place-lts.Need-mul-order claims place-at place.Post place-Inv-loop place-μ-loop
-  place-mul-order c = omega (arith, entry (head (this c)) .pre .1 .0 .few, on-the-list (this c))
+  place-mul-more : place-lts.Need-mul-more claims place-at place.Post place-Inv-loop place-μ-loop
+  place-mul-more c = omega (arith, entry (head (this c)) .pre .1 .0 .few, on-the-list (this c))
 
-  place-element-copy-out-order : place-lts.Need-element-copy-out-order claims place-at place.Post place-Inv-loop place-μ-loop
-  place-element-copy-out-order c = omega (arith, entry (head (this c)) .pre .1 .0 .few, on-the-list (this c))
+  place-element-copy-out-more : place-lts.Need-element-copy-out-more claims place-at place.Post place-Inv-loop place-μ-loop
+  place-element-copy-out-more c = omega (arith, entry (head (this c)) .pre .1 .0 .few, on-the-list (this c))
 
-  place-mul-order-2 : place-lts.Need-mul-order-2 claims place-at place.Post place-Inv-loop place-μ-loop
-  place-mul-order-2 c = omega (arith, fits-in (c .before .before))
+  place-mul-more-2 : place-lts.Need-mul-more-2 claims place-at place.Post place-Inv-loop place-μ-loop
+  place-mul-more-2 c = omega (arith, fits-in (c .before .before))
 
-  place-element-write-order : place-lts.Need-element-write-order claims place-at place.Post place-Inv-loop place-μ-loop
-  place-element-write-order c = omega (arith, fits-in (c .before .before))
+  place-array-write-more : place-lts.Need-array-write-more claims place-at place.Post place-Inv-loop place-μ-loop
+  place-array-write-more c = omega (arith, fits-in (c .before .before))
 
   place-note-last-requires : place-lts.Need-note-last-requires claims place-at place.Post place-Inv-loop place-μ-loop
   place-note-last-requires c κs =
@@ -174,7 +177,7 @@ module _ (size : ℕ) where
       let s = entry (head now) in
       let q = s .pre .1 in (
         omega (arith, s .pre .0, more .with-placed .ensures .more, room (q .0) (q .1) _ (is-left now) (follows (more .before))),
-        (q .0, rw (longer more) (one-placed (q .0) (q .1) _ (is-left now) (follows (more .before)) (more .with-placed .ensures) (noted .note-last .ensures)), length-set (head now .loop .order) _ _ ∙ head now .loop .inv .2),
+        (q .0, rw (longer more) (one-placed (q .0) (q .1) _ (is-left now) (follows (more .before)) (more .with-placed .ensures) (noted .note-last .ensures)), head now .loop .inv .1),
       )
 
   place-returns : place-lts.Need-returns claims place-at place.Post place-Inv-loop place-μ-loop
@@ -183,9 +186,8 @@ module _ (size : ℕ) where
       let more = one-more (behind .before .before .before .before) in
       let now = this more in
       let q = entry (head now) .pre .1 in (
-        search-found (q .0) (q .1) _ (is-left now) (follows (more .before)) (head now .loop .inv .1) (now .lowest-mark .ensures) (rw (longer more, c .if3 .taken) at (behind .place .ensures .0)),
-        before-placed (more .with-placed .ensures) _ _ _ (full (more .before)) (behind .place .ensures .1 ∙ longer more),
-        behind .place .ensures .2,
+        search-found (q .0) (q .1) _ (is-left now) (follows (more .before)) (head now .loop .inv .0) (now .lowest-mark .ensures) (rw (longer more, c .if3 .taken) at (behind .place .ensures .0)),
+        behind .place .ensures .1,
       )
 
   place-without-mark-requires : place-lts.Need-without-mark-requires claims place-at place.Post place-Inv-loop place-μ-loop
@@ -200,21 +202,25 @@ module _ (size : ℕ) where
       let now = asked .before in
       let q = entry (head now) .pre .1 in
       let came = c .before .if2 .came in (
-        ⊎-elim (λ w. rw (w .10) (before-placed (w .1 .ensures) _ _ _ (full (record { before = asked; if2 = w .0 })) (w .8 .ensures .1 ∙ longer (record { before = record { before = asked; if2 = w .0 }; with-placed = w .1 }))))
-            (λ w. rw (w .1) (head now .loop .inv .0)) came,
         rw (c .without-mark .ensures)
-            (tried-more _ (head now .loop .inv .1) _
+            (tried-more _ (head now .loop .inv .0) _
             (⊎-elim (λ w. search-missed (q .0) (q .1) _ (is-left now) (may asked (w .0 .taken)) (rw (longer (record { before = record { before = asked; if2 = w .0 }; with-placed = w .1 }), w .9 .left) at (w .8 .ensures .0)))
             (λ w. not-next (q .0) (q .1) _ (is-left now) (may-not asked (w .0 .left))) came)),
-        ⊎-elim (λ w. rw (w .10) (w .8 .ensures .2)) (λ w. rw (w .1) (head now .loop .inv .2)) came,
+        ⊎-elim (λ w. rw (w .10) (w .8 .ensures .1)) (λ w. rw (w .1) (head now .loop .inv .1)) came,
       )
 
-  place-returns-2 : place-lts.Need-returns-2 claims place-at place.Post place-Inv-loop place-μ-loop
-  unfolding _is_
-  place-returns-2 c =
+  -- all have had their turn
+  over : (c : Else1) → let s = entry (c .before .before) in Searched (s .args .log .now) (so-far s) (s .args .n) (s .args .run .at is s .args .n) (s .args .placed)
+  over c =
       let top = c .before .before in
       let q = entry top .pre .1 in
-      (search-over (q .0) (q .1) (top .loop .inv .1) (sym (c .before .any-mark .ensures) ∙ c .if1 .left) (top .loop .inv .0), top .loop .inv .0, top .loop .inv .2)
+      search-over (q .0) (q .1) (top .loop .inv .0) (sym (c .before .any-mark .ensures) ∙ c .if1 .left) refl
+
+  place-returns-2 : place-lts.Need-returns-2 claims place-at place.Post place-Inv-loop place-μ-loop
+  place-returns-2 c = (missed-all (rw (→isnt (c .if4 .taken)) at (over (c .before))), c .before .before .before .loop .inv .1)
+
+  place-returns-3 : place-lts.Need-returns-3 claims place-at place.Post place-Inv-loop place-μ-loop
+  place-returns-3 c = (rw (→is (c .if4 .left)) at (over (c .before)), search needs)
 
 pub +place-spec : {M : Type 1} → statement M
 +place-spec = close μ-place λ n. place-lts.spec (claims n)
@@ -227,10 +233,10 @@ pub +place-spec : {M : Type 1} → statement M
     (place-lowest-mark-requires n)
     (place-may-follow-requires n)
     (place-with-placed-requires n)
-    (place-mul-order n)
-    (place-element-copy-out-order n)
-    (place-mul-order-2 n)
-    (place-element-write-order n)
+    (place-mul-more n)
+    (place-element-copy-out-more n)
+    (place-mul-more-2 n)
+    (place-array-write-more n)
     (place-note-last-requires n)
     (place-place-requires n)
     (place-returns n)
@@ -238,3 +244,4 @@ pub +place-spec : {M : Type 1} → statement M
     (place-loop-less n)
     (place-loop-again n)
     (place-returns-2 n)
+    (place-returns-3 n)

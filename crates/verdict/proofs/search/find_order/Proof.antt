@@ -85,13 +85,13 @@ returns-2 c =
     holds-none (none-found _ _ _ (q .1) (rw (not-true (p .place .result) (c .before .if2 .taken)) at (p .place .ensures .0))) (c .without-members2 .ensures)
 
 array-share-prefix-order : tie.Need-array-share-prefix-order
-array-share-prefix-order c = let p = c .before in omega (arith, few (found-list p), p .place .ensures .2)
+array-share-prefix-order c = let p = c .before in omega (arith, few (found-list p), p .place .ensures .1)
 
 slice-aggregate-an-order : tie.Need-slice-aggregate-an-order
-slice-aggregate-an-order c = let p = c .before .before in slice p _ (p .place .ensures .2)
+slice-aggregate-an-order c = let p = c .before .before in slice p _ (p .place .ensures .1)
 
 an-order-requires : tie.Need-an-order-requires
-an-order-requires c κs = let p = c .before .before in subst (λ (k : ℕ). k ≤ transactions) (slice p _ (p .place .ensures .2)) (omega (arith, few (found-list p)))
+an-order-requires c κs = let p = c .before .before in subst (λ (k : ℕ). k ≤ transactions) (slice p _ (p .place .ensures .1)) (omega (arith, few (found-list p)))
 
 returns-3 : tie.Need-returns-3
 returns-3 c =
