@@ -5,7 +5,8 @@
 
 static void start_graph(const struct history *h, struct graph *g)
 {
-    memset(g, 0, sizeof *g);
+    g->members = (set){{0, 0}};
+    memset(g->before, 0, sizeof g->before);
     for (unsigned i = 0; i < h->committed; i++)
         set_add(&g->members, h->by_commit[i]);
 }
@@ -32,7 +33,6 @@ void conflict_graph(const struct history *h, struct graph *g)
     }
     for (unsigned i = 0; i < h->committed; i++)
         set_remove(&g->before[h->by_commit[i]], h->by_commit[i]);
-    graph_close(g);
 }
 
 static void add_edge(struct graph *g, unsigned from, unsigned to)
@@ -64,5 +64,4 @@ void version_graph(const struct history *h, struct graph *g, struct versions *v)
         add_edge(g, s.source, s.tx);
         add_edge(g, s.tx, v->following[s.source][s.object]);
     }
-    graph_close(g);
 }

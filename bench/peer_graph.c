@@ -3,9 +3,11 @@
 
 #include "peer_parts.h"
 
-void graph_close(struct graph *g)
+/* Fills `after` in from `before`. Only cycles need it. */
+static void graph_close(struct graph *g)
 {
     set members = g->members;
+    memset(g->after, 0, sizeof g->after);
     while (!set_is_empty(&members)) {
         unsigned t = set_take_lowest(&members);
         set before = g->before[t];
@@ -14,31 +16,27 @@ void graph_close(struct graph *g)
     }
 }
 
-/* Places what is not placed yet, always the lowest that may come, and answers what cannot be placed. */
+/* Places what is not placed yet, always the lowest that may come, and answers what cannot be placed. Who has to wait waits for one that has
+ * to come before it, and is looked at again when that one is placed. */
 static set place_rest(const struct graph *g, set placed, uint16_t *order)
 {
-    uint8_t waits_for[TRANSACTIONS + 1];
-    set left = set_minus(g->members, placed);
-    set ready = {{0, 0}};
+    set waiting[TRANSACTIONS + 1]; /* by whom they wait for */
+    set left = set_minus(g->members, placed), todo = left, ready = {{0, 0}};
 
-    for (set rest = left; !set_is_empty(&rest);) {
-        unsigned t = set_take_lowest(&rest);
-        set open = set_minus(g->before[t], placed);
-        waits_for[t] = (uint8_t)set_count(&open);
-        if (waits_for[t] == 0)
-            set_add(&ready, t);
-    }
-    while (!set_is_empty(&ready)) {
+    memset(waiting, 0, sizeof waiting);
+    for (;;) {
+        while (!set_is_empty(&todo)) {
+            unsigned u = set_take_lowest(&todo);
+            set early = set_and(g->before[u], left);
+            set_add(set_is_empty(&early) ? &ready : &waiting[set_lowest(&early)], u);
+        }
+        if (set_is_empty(&ready))
+            return left;
         unsigned t = set_take_lowest(&ready);
         set_remove(&left, t);
         *order++ = (uint16_t)t;
-        for (set after = g->after[t]; !set_is_empty(&after);) {
-            unsigned u = set_take_lowest(&after);
-            if (--waits_for[u] == 0)
-                set_add(&ready, u);
-        }
+        todo = waiting[t];
     }
-    return left;
 }
 
 /* The length of the shortest cycle through start whose other members are in `within`, if it is at most `most`; else 0.
@@ -102,11 +100,12 @@ static unsigned first_cycle(const struct graph *g, set left, uint16_t *members)
     return best;
 }
 
-uint64_t graph_answer(const struct graph *g, uint16_t *members)
+uint64_t graph_answer(struct graph *g, uint16_t *members)
 {
     set left = place_rest(g, (set){{0, 0}}, members);
     if (set_is_empty(&left))
         return answer(KRUPOVESH_ORDER, set_count(&g->members), 0);
+    graph_close(g);
     return answer(KRUPOVESH_CYCLE, first_cycle(g, left, members), 0);
 }
 

@@ -129,15 +129,14 @@ struct versions {
 struct graph {
     set members;
     set before[TRANSACTIONS + 1]; /* before[t]: where edges to t come from */
-    set after[TRANSACTIONS + 1];  /* after[t]: where edges from t lead */
+    set after[TRANSACTIONS + 1];  /* after[t]: where edges from t lead; filled in where there is a cycle */
 };
 
 /* peer_check.c: 0, or the refusal with number 1 to 11. */
 uint64_t peer_check(struct history *h, const uint16_t *log, size_t length);
 
-/* peer_graph.c. graph_close fills `after` in from `before`. Orders and cycles are plain numbers here, one for each member. */
-void graph_close(struct graph *g);
-uint64_t graph_answer(const struct graph *g, uint16_t *members);
+/* peer_graph.c. Orders and cycles are plain numbers here, one for each member. */
+uint64_t graph_answer(struct graph *g, uint16_t *members);
 bool graph_keeps(const struct graph *g, const uint16_t *order);
 unsigned graph_next(const struct graph *g, const uint16_t *order, uint16_t *next);
 

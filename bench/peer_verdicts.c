@@ -26,8 +26,19 @@ uint64_t fault_of(const struct history *h)
     return fault;
 }
 
-/* The lowest of the first `earlier` to commit that overlaps t and writes something that t writes; 0 if there is none. */
-static unsigned clash(const struct history *h, unsigned t, unsigned earlier)
+/* Whether something that t writes was written by one who committed since t began, by the last writers. */
+static bool written_since(const struct history *h, unsigned t, const uint8_t *last)
+{
+    for (uint64_t w = h->wrote[t]; w != 0; w = without_lowest(w)) {
+        unsigned p = last[lowest_bit(w)];
+        if (p != 0 && h->end[p] > h->begin[t])
+            return true;
+    }
+    return false;
+}
+
+/* The lowest of the first `earlier` to commit that overlaps t and writes something that t writes. */
+static unsigned partner_of(const struct history *h, unsigned t, unsigned earlier)
 {
     unsigned partner = 0;
     while (earlier-- > 0) {
@@ -59,9 +70,9 @@ uint64_t snapshot_answer(const struct history *h)
             if (s.source != s.tx && s.source != right)
                 return wrong_read(k, right, right != 0 ? h->end[right] : 0);
         } else if (s.kind == COMMIT) {
-            unsigned partner = clash(h, s.tx, commits++);
-            if (partner != 0)
-                return answer(KRUPOVESH_WRITE_AT, k, partner);
+            if (written_since(h, s.tx, last))
+                return answer(KRUPOVESH_WRITE_AT, k, partner_of(h, s.tx, commits));
+            commits++;
             for (uint64_t w = h->wrote[s.tx]; w != 0; w = without_lowest(w))
                 last[lowest_bit(w)] = (uint8_t)s.tx;
         }
