@@ -1,4 +1,6 @@
 // Marks of the numbers below 64 as the bits of one number.
+#![tactic(auto)]
+
 mod table;
 
 ghost use Rattle.std.specs.Prelude.{◌≡◌, ℕ};

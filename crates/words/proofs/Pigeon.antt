@@ -9,7 +9,7 @@ use lib.ListN.{length}
 use Rattle.words.specs.Tests.{◌is◌, ◌below◌, if◌then◌else◌, count}
 use Rattle.words.specs.Lists.{member, distinct}
 use Rattle.words.proofs.Truth.{decide, not_both, to_false, and→, →and, →fails, is→, isnt→, below→, →below, not_below→, if_true, if_false}
-use Rattle.words.proofs.Places.{member→, all→, →all, member_head, member_tail, distinct→}
+use Rattle.words.proofs.Places.{member→, all→, →all, member_at, member_head, member_tail, distinct→}
 use Rattle.words.proofs.Search.{rising, ascending}
 
 without : ℕ → List ℕ → List ℕ
@@ -37,7 +37,7 @@ without_member a b (t ∷ l) m n = go (decide (a is t)) (member→ b t l m) (λ 
         → member b (if a is t then l else (t ∷ without a l)) ≡ true
     go (inl e) (inl k) rec = absurd (n (k ∙ sym (is→ e)))
     go (inl e) (inr k) rec = rw (if_true l (t ∷ without a l) e) k
-    go (inr e) (inl k) rec = rw (if_false l (t ∷ without a l) e) (rw k (member_head t (without a l)))
+    go (inr e) (inl k) rec = rw (if_false l (t ∷ without a l) e) (member_at b t (without a l) k)
     go (inr e) (inr k) rec = rw (if_false l (t ∷ without a l) e) (member_tail b t (without a l) (rec k))
 
 pub pigeon : (v cs : List ℕ) → distinct v ≡ true → ((t : ℕ) → member t v ≡ true → member t cs ≡ true) → length v ≤ length cs

@@ -16,6 +16,10 @@ pub member_tail : (a t : ℕ) (w : List ℕ) → member a w ≡ true → member 
 unfolding member
 member_tail a t w h = →or_right (a is t) h
 
+-- the first one, under another name
+pub member_at : (a t : ℕ) (w : List ℕ) → a ≡ t → member a (t ∷ w) ≡ true
+member_at a t w e = rw e (member_head t w)
+
 pub member→ : (a t : ℕ) (w : List ℕ) → member a (t ∷ w) ≡ true → (a ≡ t) ⊎ (member a w ≡ true)
 unfolding member
 member→ a t w h = ⊎_elim (λ k. inl (is→ k)) inr (or→ h)
@@ -24,7 +28,7 @@ member→ a t w h = ⊎_elim (λ k. inl (is→ k)) inr (or→ h)
 pub member_left : (t : ℕ) (s u : List ℕ) → member t s ≡ true → member t (s ++ u) ≡ true
 unfolding member
 member_left t [] u m = absurd (false≢true m)
-member_left t (a ∷ s) u m = ⊎_elim (λ (e : t ≡ a). rw e (member_head a (s ++ u))) (λ k. member_tail t a (s ++ u) (member_left t s u k)) (member→ t a s m)
+member_left t (a ∷ s) u m = ⊎_elim (member_at t a (s ++ u)) (λ k. member_tail t a (s ++ u) (member_left t s u k)) (member→ t a s m)
 
 pub member_right : (t : ℕ) (s u : List ℕ) → member t u ≡ true → member t (s ++ u) ≡ true
 member_right t [] u m = m
@@ -87,6 +91,10 @@ before_irreflexive a (t ∷ w) d h =
     ⊎_elim (λ (k : (a ≡ t) × (member a w ≡ true)). not_both k.1 (rw k.0 (distinct→ t w d).0))
     (λ k. before_irreflexive a w (distinct→ t w d).1 k) (before→ a a t w h)
 
+-- the first one, under another name, stands before every later member
+before_at : (a c t : ℕ) (w : List ℕ) → a ≡ t → member c w ≡ true → before a c (t ∷ w) ≡ true
+before_at a c t w e m = rw e (before_head t c w m)
+
 pub before_trans : (a b c : ℕ) (w : List ℕ) → distinct w ≡ true → before a b w ≡ true → before b c w ≡ true → before a c w ≡ true
 unfolding before
 before_trans a b c [] d h k = h
@@ -94,8 +102,8 @@ before_trans a b c (t ∷ w) d h k = go (before→ a b t w h) (before→ b c t w
   where
     go : ((a ≡ t) × (member b w ≡ true)) ⊎ (before a b w ≡ true) → ((b ≡ t) × (member c w ≡ true)) ⊎ (before b c w ≡ true)
         → (before a b w ≡ true → before b c w ≡ true → before a c w ≡ true) → before a c (t ∷ w) ≡ true
-    go (inl p) (inl q) rec = rw p.0 (before_head t c w q.1)
-    go (inl p) (inr q) rec = rw p.0 (before_head t c w (before_right b c w q))
+    go (inl p) (inl q) rec = before_at a c t w p.0 q.1
+    go (inl p) (inr q) rec = before_at a c t w p.0 (before_right b c w q)
     go (inr p) (inl q) rec = absurd (not_both (before_right a b w p) (rw q.0 (distinct→ t w d).0))
     go (inr p) (inr q) rec = before_tail a c t w (rec p q)
 

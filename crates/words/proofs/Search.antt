@@ -270,10 +270,10 @@ unfolding later
 
 -- there is one such list
 pub listed_one : {p : List ℕ → Bool} (vs ws : List (List ℕ)) → Listed p vs → Listed p ws → vs ≡ ws
-listed_one [] [] k l = refl
-listed_one [] (w ∷ ws) k l = absurd (not_both (l.only w here) (listed_none k w))
-listed_one (v ∷ vs) [] k l = absurd (not_both (k.only v here) (listed_none l v))
-listed_one {p} (v ∷ vs) (w ∷ ws) k l =
+listed_one {p = p} [] [] k l = refl
+listed_one {p = p} [] (w ∷ ws) k l = absurd (not_both (l.only w here) (listed_none k w))
+listed_one {p = p} (v ∷ vs) [] k l = absurd (not_both (k.only v here) (listed_none l v))
+listed_one {p = p} (v ∷ vs) (w ∷ ws) k l =
     let e : v ≡ w = first_one dictionary dictionary_same p v w (listed_first k) (listed_first l) in
-    let f : vs ≡ ws = listed_one vs ws (rw e at (listed_later k)) (listed_later l) in
+    let f : vs ≡ ws = listed_one {p = later p w} vs ws (rw e at (listed_later k)) (listed_later l) in
     cc
