@@ -1,5 +1,7 @@
 // The program: prints whether it will do to take back the commits that its first argument names, as in `2,5`: `yes` or `no`.
 // The log is on standard input, or in the file that the second names. Where the log or the list is turned away, the refusal is printed.
+#![tactic(auto)]
+
 mod named;
 
 use crate::named::propose;

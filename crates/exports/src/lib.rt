@@ -1,4 +1,6 @@
 // The C face: each function answers one number, packed as the header says. It may be handed buffers of any length and any contents.
+#![tactic(auto)]
+
 mod pack;
 
 ghost use Rattle.verdict.specs.Call.{CleanCall, SnapshotCall, ConflictCall, VersionCall, ExactCall, NextCall};

@@ -1,5 +1,7 @@
 // Makes 65 graphs, and writes for each its first order or first shortest cycle, and up to four later orders.
 
+#![tactic(auto)]
+
 mod make;
 
 use graph::{Later, ROWS, Shape, VERTICES, WORDS};

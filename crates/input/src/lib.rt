@@ -1,4 +1,6 @@
 // What a program is given: standard input, the files that its arguments name, and lists of numbers.
+#![tactic(auto)]
+
 mod named;
 
 ghost use Rattle.io.specs.Counts.{IsPrefixLen};

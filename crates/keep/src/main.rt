@@ -1,5 +1,7 @@
 // The program: prints the text of a log with only the steps of the transactions that its first argument names, as in `1,3`.
 // The log is on standard input, or in the file that the second names. Where what is kept is turned away, its refusal is printed.
+#![tactic(auto)]
+
 mod kept;
 mod named;
 

@@ -1,4 +1,6 @@
 // The live judge: it takes a log in parts, down to a single step, and answers each step as 01's verdicts over the log so far would.
+#![tactic(auto)]
+
 mod answers;
 mod around;
 mod comparing;

@@ -1,5 +1,7 @@
 // The program: prints every order that explains the log on standard input, or in each file named, one a line, and last `none`.
 // A log that is turned away gets the line of its refusal instead.
+#![tactic(auto)]
+
 ghost use Rattle.std.specs.Prelude.{◌≡◌, true, ◌*◌, ◌≤◌, ◌<◌, length};
 ghost use Rattle.verdict.specs.Limits.{order_entries};
 ghost use Rattle.verdict.specs.Witness.{read_off, handed};

@@ -1,4 +1,6 @@
 // Lines that programs print, each with one write where it is no longer than most are.
+#![tactic(auto)]
+
 ghost use Rattle.std.specs.Prelude.{◌≡◌, ◌+◌, ◌≤◌, length};
 
 use libc::STDOUT_FILENO;

@@ -1,5 +1,7 @@
 // The program: draws the log on standard input, or in the file that its argument names, as an SVG: a lane for each transaction, and
 // the version verdict, as arrows, an order or a ring. A log that is turned away gets the line of its refusal instead.
+#![tactic(auto)]
+
 mod arrows;
 mod fill;
 mod lanes;

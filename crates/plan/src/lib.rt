@@ -1,4 +1,6 @@
 // Which commits to redo: a judge that says of any proposal whether it will do, and a planner that brings one.
+#![tactic(auto)]
+
 mod answers;
 mod changed;
 mod committed;

@@ -1,5 +1,7 @@
 // The program: prints which commits of the log on standard input, or in each file named, are to be taken back, as in `redo 2 5`.
 // A log that is turned away gets the line of its refusal instead.
+#![tactic(auto)]
+
 use input::{print_named, read_input, read_named};
 use output::{print_numbers, print_refused};
 use plan::{RedoAnswer, redo};

@@ -1,4 +1,6 @@
 // The program: prints the report of the text on standard input, or of each file named, under a line `file=NAME`.
+#![tactic(auto)]
+
 use input::{print_named, read_input, read_named};
 use libc::STDOUT_FILENO;
 use text::{Text, TextAnswer, report};

@@ -1,4 +1,6 @@
 // The text reader, the writer and the report.
+#![tactic(auto)]
+
 mod clear;
 mod decimal;
 mod line;

@@ -1,4 +1,6 @@
 // The judge of a log: what it may be handed, what it answers, and its entry points.
+#![tactic(auto)]
+
 mod all_verdicts;
 pub mod answers;
 mod cleanness;

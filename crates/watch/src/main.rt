@@ -1,4 +1,6 @@
 // The program: answers each step line of standard input at once, with one line, as the live judge does.
+#![tactic(auto)]
+
 mod answering;
 mod begun;
 
