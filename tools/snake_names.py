@@ -85,6 +85,11 @@ def main():
             m = DECLARED.match(line)
             if m:
                 plain.add(m.group(2))
+    # an operator's words are its name's: ◌else-try◌ is written `a else-try b`
+    for old in sorted({t for text in texts.values() for t in TOKEN.findall(text) if '◌' in t and re.search(r'[^-◌]-[^-◌]', t)}):
+        if old not in taken:
+            table[old] = old.replace('-', '_')
+            table.update({w: w.replace('-', '_') for w in old.split('◌') if '-' in w})
     back = {}
     for old, new in sorted(table.items()):
         if new in plain or new in back:

@@ -3,7 +3,7 @@ use Rattle.std.specs.Prelude.{◌≡◌, List, map, ℕ, ◌/◌, ◌%◌, lengt
 use Rattle.words.specs.Tests.{◌is◌, ◌and◌, fails}
 use Rattle.verdict.specs.declared.answers.Checked.{Checked}
 use Rattle.verdict.specs.declared.answers.Checked.TheVariants.{Passed, Refused}
-use Rattle.verdict.specs.Refusal.{◌at◌when◌, ◌else-try◌}
+use Rattle.verdict.specs.Refusal.{◌at◌when◌, ◌else_try◌}
 use Rattle.live.specs.Answers.{answer_number, LiveAnswer, Accepted}
 use Rattle.live.specs.SoFar.{numbers}
 use Rattle.live.specs.Says.{State, all_says, after_all}

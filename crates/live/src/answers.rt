@@ -1,7 +1,7 @@
 // What the live judge answers. Each answer is one type, used by the code and by the statements alike.
 
 // What a step is answered: the number of a bad step; a good step that is no commit, and a good commit; and the two that are the answer to every later step.
-#[derive(Drop)]
+#[derive(Clone, Copy)]
 pub enum Said {
     Refused(u16),
     Taken,

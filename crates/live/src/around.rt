@@ -10,7 +10,7 @@ use bits::{any_mark, common, union};
 use graph::{WORDS, any, lent_join, takes_part, with_vertex};
 
 // The places before and after one.
-#[derive(Drop)]
+#[derive(Clone, Copy)]
 pub(crate) struct Around {
     pub before: [u64; WORDS],
     pub after: [u64; WORDS],

@@ -21,7 +21,7 @@ ghost use Rattle.live.specs.Inner.Parts.{CallNumber};
 pub use answers::{BREACH, CLOSED, Said, TAKEN, YES};
 
 // What a call is answered: the number that turns it away, or that each step of its part has its answer.
-#[derive(Drop)]
+#[derive(Clone, Copy)]
 pub enum LiveAnswer {
     Refused(u16),
     Accepted,

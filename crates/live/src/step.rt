@@ -19,7 +19,7 @@ use graph::{WORDS, reaches};
 
 // The small part of the state: the answer that stands, 0 where none does; the highest number begun; and how many places there are to look at,
 // since all behind them are free.
-#[derive(Drop)]
+#[derive(Clone, Copy)]
 pub(crate) struct Live {
     pub standing: u16,
     pub top: u16,
@@ -27,7 +27,7 @@ pub(crate) struct Live {
 }
 
 // A step taken: the state after it, and its answer.
-#[derive(Drop)]
+#[derive(Clone, Copy)]
 pub(crate) struct Told {
     pub live: Live,
     pub said: Said,

@@ -6,7 +6,7 @@ use lib.ListN.{length}
 use Rattle.words.specs.Lists.{zeros}
 use Rattle.verdict.specs.Limits.{transactions}
 use Rattle.verdict.specs.Call.{answered}
-use Rattle.verdict.specs.Refusal.{◌else-try◌, log_refusal, work_refusal}
+use Rattle.verdict.specs.Refusal.{◌else_try◌, log_refusal, work_refusal}
 use Rattle.verdict.specs.declared.answers.Checked.{Checked}
 use Rattle.verdict.specs.declared.answers.Checked.TheVariants.{Passed, Refused}
 use Rattle.words.proofs.Truth.{is→, not_fails→}

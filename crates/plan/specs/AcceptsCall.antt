@@ -1,7 +1,7 @@
 -- What a call of `accepts` answers, and what it leaves in the lent work area.
 use Rattle.std.specs.Prelude.{◌≡◌, List, [], ◌∷◌, ℕ}
 use Rattle.verdict.specs.Limits.{transactions}
-use Rattle.verdict.specs.Refusal.{◌else-try◌, work_refusal, log_refusal}
+use Rattle.verdict.specs.Refusal.{◌else_try◌, work_refusal, log_refusal}
 use Rattle.verdict.specs.Call.{Call, leaves_work}
 use Rattle.plan.specs.Proposal.{proposes, length_refusal, proposal_refusal}
 use Rattle.plan.specs.WillDo.{WillDo}

@@ -2,7 +2,7 @@
 use Rattle.std.specs.Prelude.{◌≡◌, List, [], ◌∷◌, ℕ, length}
 use Rattle.words.specs.Lists.{zeros, entries}
 use Rattle.verdict.specs.Limits.{transactions, work_bytes}
-use Rattle.verdict.specs.Refusal.{◌else-try◌, work_refusal, log_refusal}
+use Rattle.verdict.specs.Refusal.{◌else_try◌, work_refusal, log_refusal}
 use Rattle.verdict.specs.Call.{Call}
 use Rattle.plan.specs.Proposal.{proposal_entries, length_refusal}
 use Rattle.plan.specs.Redo.{Redo}

@@ -7,7 +7,7 @@ use crate::marks::{index, is_marked};
 use verdict::Transaction;
 
 // What is found of the members of a proposal: whether they are different and committed; if so, how many they are, and the marks of them.
-#[derive(Drop)]
+#[derive(Clone, Copy)]
 pub(crate) struct Members {
     pub good: bool,
     pub count: usize,

@@ -2,7 +2,7 @@
 ghost use Rattle.std.specs.Prelude.{◌≡◌};
 ghost use Rattle.words.specs.Tests.{◌is◌, fails};
 ghost use Rattle.verdict.specs.Limits.{work_bytes};
-ghost use Rattle.verdict.specs.Refusal.{◌at◌when◌, ◌else-try◌, log_refusal};
+ghost use Rattle.verdict.specs.Refusal.{◌at◌when◌, ◌else_try◌, log_refusal};
 ghost use Rattle.verdict.specs.declared.answers.Checked.TheVariants.{Passed};
 ghost use Rattle.plan.specs.Proposal.{proposal_entries};
 ghost use Rattle.plan.specs.Inner.Marks.{Proposes};
@@ -26,7 +26,7 @@ pub(crate) fn admit(log: &[u16], work: usize, proposal: usize) -> Checked
 }
 
 // A proposal that was looked at: 19, or the marks of its members.
-#[derive(Drop)]
+#[derive(Clone, Copy)]
 pub(crate) struct Proposed {
     pub checked: Checked,
     pub marks: [u8; Transaction::TABLE],

@@ -2,7 +2,7 @@
 use Rattle.std.specs.Prelude.{◌≡◌, List, [], ◌∷◌, ℕ, length}
 use Rattle.words.specs.Tests.{◌is◌, fails}
 use Rattle.words.specs.Lists.{entries}
-use Rattle.verdict.specs.Refusal.{◌at◌when◌, ◌else-try◌, log_refusal}
+use Rattle.verdict.specs.Refusal.{◌at◌when◌, ◌else_try◌, log_refusal}
 use Rattle.verdict.specs.Call.{Call}
 use Rattle.verdict.specs.declared.answers.Checked.{Checked}
 use Rattle.text.specs.Text.{text_of}

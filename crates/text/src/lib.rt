@@ -27,7 +27,7 @@ use verdict::Log;
 pub use writer::write;
 
 // A text, by how many bytes it has.
-#[derive(Drop)]
+#[derive(Clone, Copy)]
 pub struct Text {
     pub length: usize,
 }
@@ -47,14 +47,14 @@ impl Text {
 
 // What a call over a text answers: a refusal with its number and its place, or that it was accepted: how many steps were read, or how
 // many bytes were written.
-#[derive(Drop)]
+#[derive(Clone, Copy)]
 pub enum TextAnswer {
     Refused(u16, usize),
     Accepted(usize),
 }
 
 // What a line by itself says: a step by its kind, transaction, object and source; how many steps follow; or nothing that is in form.
-#[derive(Drop)]
+#[derive(Clone, Copy)]
 pub enum OneLine {
     Step(u16, u16, u16, u16),
     Header,

@@ -7,14 +7,14 @@ ghost use Rattle.text.specs.Inner.Finds.{Finds, FindsLine, Passes};
 use crate::number::{Number, item_at, stands};
 
 // What stands at a place: a line's kind, transaction, object and source, and the place behind it; or no line in form.
-#[derive(Drop)]
+#[derive(Clone, Copy)]
 pub enum Line {
     At(u16, u16, u16, u16, usize),
     Bad,
 }
 
 // What a pass over lines finds: all in form, and the place behind them; or how many are before the first that is not.
-#[derive(Drop)]
+#[derive(Clone, Copy)]
 pub enum Lines {
     To(usize),
     Bad(usize),

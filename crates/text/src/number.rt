@@ -5,7 +5,7 @@ ghost use Rattle.text.specs.Line.{sayable, item as Line·item};
 ghost use Rattle.text.specs.Inner.Finds.{starts, Finds, is_digit};
 
 // What stands at a place: a number, and the place behind it; or no number in form.
-#[derive(Drop)]
+#[derive(Clone, Copy)]
 pub enum Number {
     At(u16, usize),
     Bad,

@@ -22,7 +22,7 @@ use Rattle.verdict.proofs.Threes.{reasons_length}
 use Rattle.verdict.specs.Log.{steps, kind, tx, obj, src, begins, begun, committed, committed_count, aborted, begin_step, commits_writer}
 use Rattle.verdict.specs.declared.answers.Checked.{Checked}
 use Rattle.verdict.specs.declared.answers.Checked.TheVariants.{Passed, Refused}
-use Rattle.verdict.specs.Refusal.{◌at◌when◌, ◌else-try◌, tried, range_refusal, life_refusal, source_refusal, step_refusal, open_refusal, log_refusal, search_refusal, work_refusal, witness_refusal, order_refusal}
+use Rattle.verdict.specs.Refusal.{◌at◌when◌, ◌else_try◌, tried, range_refusal, life_refusal, source_refusal, step_refusal, open_refusal, log_refusal, search_refusal, work_refusal, witness_refusal, order_refusal}
 use Rattle.verdict.specs.declared.answers.Fault.{Fault}
 use Rattle.verdict.specs.declared.answers.Fault.TheVariants.{Own, Aborted, Unfinal}
 use Rattle.verdict.specs.declared.answers.Cleanness.TheVariants.{Yes, Unclean}
@@ -54,7 +54,7 @@ within_when m q true h k n p e = let x : m ≡ n = cc in let y : q ≡ p = cc in
 within_when m q false h k n p e = absurd (refused≢passed (sym e))
 
 pub within_else : (a b : Checked) → Within a → (a ≡ Passed → Within b) → Within (a else_try b)
-unfolding ◌else-try◌
+unfolding ◌else_try◌
 within_else Passed b f g n p e = g refl n p e
 within_else (Refused m q) b f g n p e = f n p e
 

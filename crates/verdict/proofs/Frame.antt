@@ -6,7 +6,7 @@ use lib.ListN.{length}
 use Rattle.words.specs.Lists.{zeros}
 use Rattle.words.proofs.Truth.{not_fails→, →not_fails, is→, →is}
 use Rattle.verdict.specs.Limits.{work_bytes, witness_buffer, order_entries}
-use Rattle.verdict.specs.Refusal.{◌else-try◌, work_refusal, witness_refusal, order_refusal}
+use Rattle.verdict.specs.Refusal.{◌else_try◌, work_refusal, witness_refusal, order_refusal}
 use Rattle.verdict.specs.Outcome.{Outcome}
 use Rattle.verdict.specs.Judgement.{Holds}
 use Rattle.verdict.specs.Witness.{witness}
@@ -70,12 +70,12 @@ module _ (rest : Checked) (work lent : List ℕ) {r : Checked} (told : r ≡ (wo
 
 -- numbers that are tried one after another
 pub else_assoc : (a b c : Checked) → ((a else_try b) else_try c) ≡ (a else_try (b else_try c))
-unfolding ◌else-try◌
+unfolding ◌else_try◌
 else_assoc Passed b c = refl
 else_assoc (Refused n p) b c = refl
 
 refused_first : {a : Checked} (b : Checked) {n p : ℕ} → a ≡ Refused n p → (a else_try b) ≡ Refused n p
-unfolding ◌else-try◌
+unfolding ◌else_try◌
 refused_first b e = rw e refl
 
 -- a call that tries one more number, behind those that are looked for first

@@ -15,7 +15,7 @@ use Rattle.graph.specs.Order.{once_each, is_order}
 use Rattle.graph.specs.Cycle.{is_cycle}
 use Rattle.graph.specs.Shows as shows
 use Rattle.verdict.specs.Limits.{transactions, work_bytes, witness_buffer}
-use Rattle.verdict.specs.Refusal.{◌else-try◌, order_refusal, log_refusal}
+use Rattle.verdict.specs.Refusal.{◌else_try◌, order_refusal, log_refusal}
 use Rattle.verdict.specs.Clean.{is_clean}
 use Rattle.verdict.specs.Reason.{Entry}
 use Rattle.verdict.specs.Outcome.{Outcome, order, cycle, none, unclean, said, shows_order, shows_cycle}

@@ -12,7 +12,7 @@ use Rattle.verdict.specs.Limits.{transactions, most_steps}
 use Rattle.verdict.specs.Log.{steps, kind, tx, obj, src, begun, ended, wrote}
 use Rattle.verdict.specs.declared.answers.Checked.{Checked}
 use Rattle.verdict.specs.declared.answers.Checked.TheVariants.{Passed, Refused}
-use Rattle.verdict.specs.Refusal.{◌else-try◌, tried, range_refusal, life_refusal, source_refusal, step_refusal, open_refusal, log_refusal}
+use Rattle.verdict.specs.Refusal.{◌else_try◌, tried, range_refusal, life_refusal, source_refusal, step_refusal, open_refusal, log_refusal}
 use Rattle.verdict.specs.Inner.Checking.{numbered, open_by_lives}
 use Rattle.verdict.proofs.Refused.{when_yes, when_no, first_yes, first_no, numbered_some, numbered_first, try_none}
 

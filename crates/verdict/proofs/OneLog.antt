@@ -9,7 +9,7 @@ use Rattle.graph.specs.Cycle.{leads, is_cycle}
 use Rattle.verdict.specs.Limits.{transactions}
 use Rattle.verdict.specs.Log.{steps, kind, tx, obj, src, begins, reads, writes, commits, aborts, begun, ended, wrote, committed, aborted, writer, write_one_object, begin_step, commit_step, commits_writer}
 use Rattle.verdict.specs.declared.answers.Checked.TheVariants.{Passed}
-use Rattle.verdict.specs.Refusal.{◌at◌when◌, ◌else-try◌, tried, object_allowed, source_allowed, range_refusal, life_refusal, source_refusal, step_refusal, open_refusal, log_refusal}
+use Rattle.verdict.specs.Refusal.{◌at◌when◌, ◌else_try◌, tried, object_allowed, source_allowed, range_refusal, life_refusal, source_refusal, step_refusal, open_refusal, log_refusal}
 use Rattle.verdict.specs.declared.answers.Cleanness.TheVariants as cleanness_is
 use Rattle.verdict.specs.Clean.{judged, judged_other, after_own_write, writes_later, final_source, own_fault, source_fault, faulty_read, is_clean, fault_at, cleanness}
 use Rattle.verdict.specs.declared.answers.Writer.TheVariants.{Store}
@@ -42,7 +42,7 @@ its_transactions = (refl, refl, refl, refl, refl, refl)
 
 pub its_check : (step_refusal log 2 ≡ Passed) × (log_refusal log ≡ Passed)
 unfolding ◌is◌ ◌below◌ ◌upto◌ ◌and◌ ◌or◌ fails if◌then◌else◌ some lowest steps kind tx obj src begins writes commits aborts begun ended wrote
-    ◌at◌when◌ ◌else-try◌ tried object_allowed source_allowed range_refusal life_refusal source_refusal step_refusal open_refusal log_refusal
+    ◌at◌when◌ ◌else_try◌ tried object_allowed source_allowed range_refusal life_refusal source_refusal step_refusal open_refusal log_refusal
 its_check = (refl, refl)
 
 pub its_reads : (judged_other log 2 ≡ true) × (judged_other log 3 ≡ true) × (after_own_write log 2 ≡ false) × (final_source log 2 ≡ true) × (faulty_read log 2 ≡ false) × (is_clean log ≡ true) × (cleanness log ≡ cleanness_is.Yes)

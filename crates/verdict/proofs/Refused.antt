@@ -10,7 +10,7 @@ use Rattle.words.specs.Tests.{◌is◌, ◌below◌, fails, if◌then◌else◌}
 use Rattle.words.proofs.Truth.{decide, →isnt, below→, not_below→}
 use Rattle.verdict.specs.declared.answers.Checked.{Checked}
 use Rattle.verdict.specs.declared.answers.Checked.TheVariants.{Passed, Refused}
-use Rattle.verdict.specs.Refusal.{◌at◌when◌, ◌else-try◌, tried}
+use Rattle.verdict.specs.Refusal.{◌at◌when◌, ◌else_try◌, tried}
 use Rattle.verdict.specs.Inner.Checking.{numbered}
 
 -- a number whose test passes, or fails
@@ -26,35 +26,35 @@ when_no n p {b = false} h = refl
 
 -- the first that applies is given, and else the following is tried
 pub first_yes : (n p : ℕ) {b : Bool} (r : Checked) → b ≡ true → (n at p when b else_try r) ≡ Refused n p
-unfolding ◌else-try◌
+unfolding ◌else_try◌
 first_yes n p r h = ap (λ (z : Checked). z else_try r) (when_yes n p h)
 
 pub first_no : (n p : ℕ) {b : Bool} (r : Checked) → b ≡ false → (n at p when b else_try r) ≡ r
-unfolding ◌else-try◌
+unfolding ◌else_try◌
 first_no n p r h = ap (λ (z : Checked). z else_try r) (when_no n p h)
 
 pub tried_refused : {f : Checked} (s : Checked) {n p : ℕ} → f ≡ Refused n p → (f else_try s) ≡ Refused n p
-unfolding ◌else-try◌
+unfolding ◌else_try◌
 tried_refused s e = ap (λ (z : Checked). z else_try s) e
 
 pub tried_passed : {f : Checked} (s : Checked) → f ≡ Passed → (f else_try s) ≡ s
-unfolding ◌else-try◌
+unfolding ◌else_try◌
 tried_passed s e = ap (λ (z : Checked). z else_try s) e
 
 -- what is tried last where nothing applies, and what is tried after two that are tried as one
 pub try_none : (a : Checked) → (a else_try Passed) ≡ a
-unfolding ◌else-try◌
+unfolding ◌else_try◌
 try_none Passed = refl
 try_none (Refused n p) = refl
 
 pub try_last : (a b s : Checked) → ((a else_try b) else_try s) ≡ (a else_try b else_try s)
-unfolding ◌else-try◌
+unfolding ◌else_try◌
 try_last Passed b s = refl
 try_last (Refused n p) b s = refl
 
 -- what is tried after two others is tried after both
 pub try_more : (a b l s : Checked) → (a else_try b else_try l else_try s) ≡ ((a else_try b else_try l) else_try s)
-unfolding ◌else-try◌
+unfolding ◌else_try◌
 try_more (Refused n p) b l s = refl
 try_more Passed (Refused n p) l s = refl
 try_more Passed Passed (Refused n p) s = refl
@@ -62,7 +62,7 @@ try_more Passed Passed Passed s = refl
 
 -- .. and after three
 pub try_more_3 : (a b o l s : Checked) → (a else_try b else_try o else_try l else_try s) ≡ ((a else_try b else_try o else_try l) else_try s)
-unfolding ◌else-try◌
+unfolding ◌else_try◌
 try_more_3 (Refused n p) b o l s = refl
 try_more_3 Passed b o l s = try_more b o l s
 
@@ -77,14 +77,14 @@ numbered_none n p h = rw h refl
 
 -- .. before a refusal that is tried only where there is none
 pub numbered_first : (n p : ℕ) {f : Checked} (r : Checked) → numbered n p ≡ f → (n ≡ 0 → ⊥) → numbered n p ≡ f else_try r
-unfolding ◌else-try◌
+unfolding ◌else_try◌
 numbered_first n p r e h = numbered_some n p h ∙ ap (λ (z : Checked). z else_try r) (sym_some e)
   where
     sym_some : {f : Checked} → numbered n p ≡ f → Refused n p ≡ f
     sym_some q = rw (← numbered_some n p h) q
 
 pub numbered_then : (n p : ℕ) {f r : Checked} → numbered n p ≡ f → n ≡ 0 → f else_try r ≡ r
-unfolding ◌else-try◌
+unfolding ◌else_try◌
 numbered_then n p {f} {r} e h = ap (λ (z : Checked). z else_try r) (rw e at (numbered_none n p h))
 
 -- one place more
@@ -93,12 +93,12 @@ unfolding tried
 tried_next i f = rw (add-one i) refl
 
 pub tried_none : (i : ℕ) (f : ℕ → Checked) → tried i f ≡ Passed → f i ≡ Passed → tried (i + 1) f ≡ Passed
-unfolding ◌else-try◌
+unfolding ◌else_try◌
 tried_none i f h k = tried_next i f ∙ ap (λ (z : Checked). z else_try f i) h ∙ k
 
 -- the first place at which a refusal applies gives it
 pub tried_first : {n m p : ℕ} (f : ℕ → Checked) (i : ℕ) → i < n → tried i f ≡ Passed → f i ≡ Refused m p → tried n f ≡ Refused m p
-unfolding tried ◌else-try◌
+unfolding tried ◌else_try◌
 tried_first {n = zero} f i k h e = absurd (not-suc-le-zero k)
 tried_first {n = suc n} {m} {p} f i k h e = go (decide (i below n)) (λ q. tried_first {n = n} f i q h e)
   where

@@ -17,7 +17,7 @@ use Rattle.verdict.specs.Limits.{transactions}
 use Rattle.verdict.specs.Log.{steps, kind, tx, obj, src, begins, reads, writes, commits, aborts, committed, aborted, writer, write_one_object, begin_step, commit_step, commits_writer, committed_count, begun, ended, wrote}
 use Rattle.verdict.specs.declared.answers.Checked.{Checked}
 use Rattle.verdict.specs.declared.answers.Checked.TheVariants.{Passed, Refused}
-use Rattle.verdict.specs.Refusal.{◌at◌when◌, ◌else-try◌, tried, object_allowed, source_allowed, range_refusal, life_refusal, source_refusal, step_refusal, open_refusal, log_refusal}
+use Rattle.verdict.specs.Refusal.{◌at◌when◌, ◌else_try◌, tried, object_allowed, source_allowed, range_refusal, life_refusal, source_refusal, step_refusal, open_refusal, log_refusal}
 use Rattle.verdict.specs.declared.answers.Fault.{Fault}
 use Rattle.verdict.specs.declared.answers.Fault.TheVariants.{Own, Aborted, Unfinal}
 use Rattle.verdict.specs.declared.answers.Cleanness.{Cleanness}
@@ -196,7 +196,7 @@ unfolding b r w c a sample ordered ring no_order fault 1' 12' 21' 123' 132' 213'
     ◌is◌ ◌below◌ ◌upto◌ ◌and◌ ◌or◌ ◌implies◌ fails if◌then◌else◌ some every count lowest highest
     member all distinct before zeros entries handed dictionary shorter later once_each keeps is_order leads is_cycle
     steps kind tx obj src begins reads writes commits aborts committed aborted writer write_one_object begin_step commit_step commits_writer committed_count
-    ◌at◌when◌ ◌else-try◌ tried object_allowed source_allowed begun ended wrote range_refusal life_refusal source_refusal step_refusal open_refusal log_refusal
+    ◌at◌when◌ ◌else_try◌ tried object_allowed source_allowed begun ended wrote range_refusal life_refusal source_refusal step_refusal open_refusal log_refusal
     judged judged_other after_own_write writes_later final_source own_fault source_fault faulty_read is_clean fault_at cleanness
     writer_number snapshot_step last_commit last_committed wanted wrong_read overlap clash wrong_commit wrong_step snapshot_fault snapshot_verdict
     touches meet_somehow plain_conflict versions_from next_commit next_version from_writer from_source from_reader plain_version

@@ -12,7 +12,7 @@ use Rattle.verdict.specs.Limits.{transactions, objects, most_steps}
 use Rattle.verdict.specs.Log.{steps, kind, tx, obj, src, commits, aborts, writer, begun, ended, wrote}
 use Rattle.verdict.specs.declared.answers.Checked.{Checked}
 use Rattle.verdict.specs.declared.answers.Checked.TheVariants.{Passed, Refused}
-use Rattle.verdict.specs.Refusal.{◌at◌when◌, ◌else-try◌, tried, object_allowed, source_allowed, range_refusal, life_refusal, source_refusal, step_refusal, open_refusal, log_refusal}
+use Rattle.verdict.specs.Refusal.{◌at◌when◌, ◌else_try◌, tried, object_allowed, source_allowed, range_refusal, life_refusal, source_refusal, step_refusal, open_refusal, log_refusal}
 use Rattle.verdict.specs.Inner.Checking.{InRange}
 use Rattle.words.proofs.Truth.{decide, not_both, to_true, to_false, and→, →and, or→, →or_left, →or_right, →fails, not_fails→, is→, →is, →isnt, upto→, below→, not_below→, some→, →some, if_true, if_false}
 
@@ -25,7 +25,7 @@ unfolding HasPassed
 refused≢passed e = subst HasPassed (sym e) tt
 
 pub else_try→ : {a b : Checked} → (a else_try b) ≡ Passed → (a ≡ Passed) × (b ≡ Passed)
-unfolding ◌else-try◌
+unfolding ◌else_try◌
 else_try→ {a = Passed} {b} h = (refl, h)
 else_try→ {a = Refused n p} {b} h = absurd (refused≢passed h)
 

@@ -2,7 +2,7 @@
 use Rattle.std.specs.Prelude.{◌≡◌, List, [], ◌∷◌, ℕ}
 use Rattle.words.specs.Lists.{zeros}
 use Rattle.verdict.specs.Limits.{transactions, work_bytes}
-use Rattle.verdict.specs.Refusal.{◌else-try◌, log_refusal, search_refusal, work_refusal, witness_refusal, order_refusal}
+use Rattle.verdict.specs.Refusal.{◌else_try◌, log_refusal, search_refusal, work_refusal, witness_refusal, order_refusal}
 use Rattle.verdict.specs.Clean.{cleanness}
 use Rattle.verdict.specs.Snapshot.{snapshot_verdict}
 use Rattle.verdict.specs.Outcome.{Outcome, said}

@@ -6,14 +6,14 @@ use Rattle.verdict.specs.Log.{steps, kind, tx, obj, src, begun, ended, wrote, co
 use Rattle.verdict.specs.Answers.{Checked, Passed, Refused}
 
 infix 8 ◌at◌when◌
-infixr 5 ◌else-try◌
+infixr 5 ◌else_try◌
 -- number n at this place, given exactly when the test passes
 unfoldable pub ◌at◌when◌ : ℕ → ℕ → Bool → Checked
 n at place when true = Refused n place
 n at place when false = Passed
 
 -- the first of two that applies
-unfoldable pub ◌else-try◌ : Checked → Checked → Checked
+unfoldable pub ◌else_try◌ : Checked → Checked → Checked
 Passed else_try r = r
 (Refused n place) else_try r = Refused n place
 

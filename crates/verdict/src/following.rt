@@ -4,7 +4,7 @@ ghost use Rattle.words.specs.Tests.{◌is◌, fails};
 ghost use Rattle.words.specs.Lists.{all};
 ghost use Rattle.graph.specs.Matrix.{matrix_order};
 ghost use Rattle.verdict.specs.Limits.{transactions, witness_buffer, order_entries, work_bytes};
-ghost use Rattle.verdict.specs.Refusal.{◌at◌when◌, ◌else-try◌, log_refusal};
+ghost use Rattle.verdict.specs.Refusal.{◌at◌when◌, ◌else_try◌, log_refusal};
 ghost use Rattle.verdict.specs.Clean.{is_clean};
 ghost use Rattle.verdict.specs.Version.{version_edge};
 ghost use Rattle.verdict.specs.Call.{NextCall};
@@ -25,7 +25,7 @@ use crate::tables::next_writers;
 use crate::version_graph::draw;
 
 // What comes after an order: 14 where it is not on the list, or the next order, or none.
-#[derive(Drop)]
+#[derive(Clone, Copy)]
 pub struct Following {
     pub checked: Checked,
     pub found: Witnessed,

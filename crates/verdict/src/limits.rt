@@ -3,13 +3,13 @@ ghost use Rattle.std.specs.Prelude.{◌≡◌};
 ghost use Rattle.verdict.specs.Limits.{make_transaction, make_object, make_log};
 
 // A transaction, by its number.
-#[derive(Drop)]
+#[derive(Clone, Copy)]
 pub struct Transaction {
     pub number: u16,
 }
 
 // What making a transaction of a number gives.
-#[derive(Drop)]
+#[derive(Clone, Copy)]
 pub enum MadeTransaction {
     Within(Transaction),
     Beyond,
@@ -48,13 +48,13 @@ impl Transaction {
 }
 
 // An object, by its number.
-#[derive(Drop)]
+#[derive(Clone, Copy)]
 pub struct Object {
     pub number: u16,
 }
 
 // What making an object of a number gives.
-#[derive(Drop)]
+#[derive(Clone, Copy)]
 pub enum MadeObject {
     Within(Object),
     Beyond,
@@ -78,13 +78,13 @@ impl Object {
 }
 
 // A log, by how many steps it has.
-#[derive(Drop)]
+#[derive(Clone, Copy)]
 pub struct Log {
     pub steps: usize,
 }
 
 // What making a log of so many steps gives.
-#[derive(Drop)]
+#[derive(Clone, Copy)]
 pub enum MadeLog {
     Within(Log),
     Beyond,

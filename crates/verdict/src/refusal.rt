@@ -3,7 +3,7 @@ ghost use Rattle.std.specs.Prelude.{◌≡◌, suc, ◌≤◌, length};
 ghost use Rattle.words.specs.Tests.{◌is◌, fails, if◌then◌else◌};
 ghost use Rattle.verdict.specs.Limits.{transactions, most_steps, witness_buffer, work_bytes};
 ghost use Rattle.verdict.specs.Log.{steps};
-ghost use Rattle.verdict.specs.Refusal.{◌at◌when◌, ◌else-try◌, tried, step_refusal, open_refusal, log_refusal};
+ghost use Rattle.verdict.specs.Refusal.{◌at◌when◌, ◌else_try◌, tried, step_refusal, open_refusal, log_refusal};
 ghost use Rattle.verdict.specs.Inner.Checking.{open_by_lives, Noted, Walks, Examines};
 ghost use Rattle.verdict.specs.declared.answers.Checked.TheVariants.{Passed, Refused};
 
@@ -16,7 +16,7 @@ use crate::walk::EVERY_OBJECT;
 // What the check finds: its answer and, where nothing turns the log away, for each transaction the steps at which it begins and commits (the
 // number of steps, where it does not), whether it committed, who committed before it (entry 0 has the last to commit), and the marks of the objects that
 // it writes; and the first own fault, or the number of steps.
-#[derive(Drop)]
+#[derive(Clone, Copy)]
 pub(crate) struct Examined {
     pub checked: Checked,
     pub begins: [u16; Transaction::TABLE],
@@ -57,7 +57,7 @@ pub(crate) fn turned_away(number: u16, place: usize) -> Examined
 }
 
 // What the walk over the steps finds: the first number that turns one away and that step, or 0; and whether a read missed its own write.
-#[derive(Drop)]
+#[derive(Clone, Copy)]
 struct Walked {
     number: u16,
     place: usize,

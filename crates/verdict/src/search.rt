@@ -50,7 +50,7 @@ fn with_source(e: u16, s: u16) -> u16
 }
 
 // The committed transactions, the lowest first, and how many they are.
-#[derive(Drop)]
+#[derive(Clone, Copy)]
 struct Roster {
     list: [u16; Transaction::SEARCHED],
     count: usize,
@@ -158,7 +158,7 @@ fn fits(need: &[u16; Transaction::PAIRS], marks: u64, last: &[u8; Object::TABLE]
 }
 
 // Where a search stands: the places of the list that are left, as marks, and how many are placed.
-#[derive(Drop)]
+#[derive(Clone, Copy)]
 struct Run {
     free: u64,
     at: usize,

@@ -177,7 +177,7 @@ fn note_commit(
 }
 
 // A clash: the commit of the later writer, and the partner.
-#[derive(Drop)]
+#[derive(Clone, Copy)]
 struct Clash {
     step: usize,
     partner: u16,

@@ -2,7 +2,7 @@
 ghost use Rattle.std.specs.Prelude.{◌≡◌, ◌⊎◌, ℕ, suc, ◌≤◌, ◌<◌, ◌+◌, ◌*◌, length};
 ghost use Rattle.verdict.specs.Limits.{transactions, most_steps};
 ghost use Rattle.verdict.specs.Log.{steps, kind, tx, obj, src};
-ghost use Rattle.verdict.specs.Refusal.{◌else-try◌, range_refusal, life_refusal, source_refusal, step_refusal};
+ghost use Rattle.verdict.specs.Refusal.{◌else_try◌, range_refusal, life_refusal, source_refusal, step_refusal};
 ghost use Rattle.verdict.specs.Inner.Checking.{numbered, Asks, in_range, InRange, StepsBefore, InOrder, Lived, Noted, Takes};
 ghost use Rattle.verdict.specs.Inner.OwnReads.{misses};
 ghost use Rattle.verdict.specs.Inner.WriteTable.{Versions};
@@ -14,7 +14,7 @@ use crate::walk::{index, object_marked};
 
 // What a kind asks of its steps: how many objects there are, from 0 on; the highest source; how far the transaction has come; and the number of a step whose transaction
 // has not.
-#[derive(Drop)]
+#[derive(Clone, Copy)]
 struct Asked {
     objects: u16,
     source: u16,
@@ -73,7 +73,7 @@ fn source_number(log: &[u16], i: usize, versions: &[u64; Transaction::TABLE]) ->
 }
 
 // The number that turns a step away, or 0; and whether the step is a read that missed its own write.
-#[derive(Drop)]
+#[derive(Clone, Copy)]
 pub(crate) struct Taken {
     pub number: u16,
     pub missed: bool,

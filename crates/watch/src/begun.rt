@@ -6,7 +6,7 @@ ghost use Rattle.watch.specs.Begun.{Keeps};
 use text::{OneLine, Text, read_line};
 
 // The bytes of a line so far, how many they are, and whether it is the first line. One more than the longest line has stands for any more.
-#[derive(Drop)]
+#[derive(Clone, Copy)]
 pub(crate) struct Begun {
     pub bytes: [u8; Text::LINE],
     pub count: usize,

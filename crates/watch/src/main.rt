@@ -11,7 +11,7 @@ use live::{EDGES, MARKS, OPENED, ROWS, STATE};
 use output::print_refused_step;
 
 // What a read leaves: the line that has begun, and whether more may come.
-#[derive(Drop)]
+#[derive(Clone, Copy)]
 struct Read {
     line: Begun,
     more: bool,

@@ -4,7 +4,7 @@ use Rattle.words.specs.Tests.{◌is◌, ◌below◌, ◌upto◌, ◌and◌, fail
 use Rattle.graph.specs.Matrix.{takes_part}
 use Rattle.verdict.specs.Limits.{transactions, objects}
 use Rattle.verdict.specs.Log.{steps, kind, tx, obj, src, begun, ended}
-use Rattle.verdict.specs.Refusal.{◌at◌when◌, ◌else-try◌, tried, object_allowed, source_allowed, range_refusal, step_refusal}
+use Rattle.verdict.specs.Refusal.{◌at◌when◌, ◌else_try◌, tried, object_allowed, source_allowed, range_refusal, step_refusal}
 use Rattle.verdict.specs.Clean.{own_fault}
 use Rattle.verdict.specs.Inner.Marks.{does, Committed, FirstSteps}
 use Rattle.verdict.specs.Inner.WriteTable.{Versions, WriteTable}

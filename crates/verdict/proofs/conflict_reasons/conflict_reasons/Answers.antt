@@ -1,0 +1,116 @@
+-- `conflict_reasons` meets its contract.
+use mathlib.Core.Path.{◌≡◌, refl, sym, ap₂, ◌∙◌}
+use mathlib.Core.Logic.{⊎_elim}
+use mathlib.Core.List.{List}
+use Prim.Native.Nat.{ℕ, ◌-◌, ◌/◌, ◌≤◌, ◌<◌}
+use native.Mathlib.Omega.{arith}
+use native.Mathlib.Numerals.{add-one}
+use lib.ListN.{length}
+use Rattle.words.specs.Tests.{some}
+use Rattle.verdict.specs.Limits.{transactions, objects}
+use Rattle.verdict.specs.Log.{steps, tx, obj, committed}
+use Rattle.verdict.specs.Inner.ConflictEdges.{touched_row}
+use Rattle.verdict.specs.Inner.ConflictReasons.{conflict_until}
+use Rattle.verdict.proofs.WellFormed.{well_formed, object_within, ranges}
+use Rattle.verdict.proofs.Matrices.{told_committed}
+use Rattle.verdict.proofs.ConflictGraph.{untouched, open_step, touches_none, touched_more}
+use Rattle.verdict.proofs.LeastReasons.{best_none}
+use Rattle.verdict.proofs.ConflictReasons.{ends_nothing, ends_offered, all_conflict_reasons}
+use Rattle.verdict.proofs.conflict_reasons.conflict_reasons.Lts
+use Rattle.verdict.proofs.conflict_reasons.conflict_reasons.Tie as tie
+use Rattle.verdict.proofs.conflict_reasons.conflict_reasons.Reads
+use Rattle.verdict.proofs.conflict_reasons.conflict_reasons.Goals as goal
+
+-- places on the way, by the names that the toolchain gives them
+abbrev After-index : Type 0
+After-index = Lts.After-index tie.the-claims Reads.Pre Reads.Post goal.the-invariant-loop-j goal.the-decreases-loop-j
+
+abbrev After-step_at-step : Type 0
+After-step_at-step = Lts.After-step_at tie.the-claims Reads.Pre Reads.Post goal.the-invariant-loop-j goal.the-decreases-loop-j
+
+abbrev After-takes_part : Type 0
+After-takes_part = Lts.After-takes_part tie.the-claims Reads.Pre Reads.Post goal.the-invariant-loop-j goal.the-decreases-loop-j
+
+abbrev Start : Type 0
+Start = Lts.Start tie.the-claims Reads.Pre Reads.Post goal.the-invariant-loop-j goal.the-decreases-loop-j
+
+module _ (c : After-step_at-step) where
+  abbrev start : Start
+  start = c.before.before.before.before.before.before
+
+  abbrev the_log : List ℕ
+  the_log = start.args.log.now
+
+  abbrev j : ℕ
+  j = c.loop-j.j
+
+  inside : j < steps the_log
+  unfolding steps
+  inside = omega arith
+
+  in_range : (1 ≤ tx the_log j) × (tx the_log j ≤ transactions)
+  in_range = (well_formed the_log start.requires.0).range j inside
+
+  object : obj the_log j < objects
+  object = object_within the_log j (ranges the_log start.requires.0 j inside)
+
+-- what the marks say of its transaction
+told : (c : After-takes_part) → c.takes_part.result ≡ committed (the_log c.before) (tx (the_log c.before) (j c.before))
+told c = told_committed (start c.before).pre.1 c.takes_part.ensures c.step_at-step.ensures.tx_is
+
+placed : (c : After-index) → c.index.result ≡ tx (the_log c.before.before.before.before.before) (j c.before.before.before.before.before)
+placed c = c.index.ensures ∙ c.step_at-step.ensures.tx_is
+
+pub loop-j-init : goal.loop-j-init
+unfolding conflict_until some
+loop-j-init c = (refl, omega arith, best_none c.requires.2 (λ a b x k. refl), untouched _)
+
+pub step_at-step-requires : goal.step_at-step-requires
+step_at-step-requires c = omega arith
+
+pub takes_part-requires : goal.takes_part-requires
+takes_part-requires c = rw c.step_at-step.ensures.tx_is (in_range c)
+
+pub offset_bounds-before-index : goal.offset_bounds-before-index
+offset_bounds-before-index c = omega (arith, placed c.before, (in_range c.before.before.before.before.before).1)
+
+pub bounds-before-index : goal.bounds-before-index
+bounds-before-index c = omega (arith, placed c.before, (in_range c.before.before.before.before.before).1)
+
+pub offer_earlier-requires : goal.offer_earlier-requires
+offer_earlier-requires c =
+    (c.loop-j.invariant.2.size, c.before_each-before.ensures.within _ (omega (arith, placed c.before, (in_range c).1)), rw c.step_at-step.ensures.obj_is (object c))
+
+pub touched_row-requires : goal.touched_row-requires
+touched_row-requires c =
+    rw c.step_at-step.ensures.obj_is (object c)
+
+pub overflow_add-j : goal.overflow_add-j
+overflow_add-j c = omega arith
+
+pub loop-j-smaller : goal.loop-j-smaller
+loop-j-smaller c = omega arith
+
+pub loop-j-preserved : goal.loop-j-preserved
+loop-j-preserved c =
+    let step = c.step_at-step.ensures in
+    let known = c.loop-j.invariant in
+    let stands = c.before_each-before.ensures in
+    let q = (start c).requires in (
+      refl,
+      omega arith,
+      ⊎_elim
+          (λ w. rw (w.11, add-one (j c)) (ends_offered (the_log c) stands q.3 (j c) (in_range c).1 known.3 (object c)
+          (w.3.ensures ∙ step.tx_is) step.kind_is step.obj_is (w.4.ensures _ _ q.2 known.2)))
+          (λ w. rw (w.2, add-one (j c)) (ends_nothing (the_log c) stands q.3 (j c) (in_range c).1 q.2 (sym (told c.before.before) ∙ w.0.left) known.2)) c.if-takes_part.branch,
+      ⊎_elim
+          (λ w. rw (w.10, add-one (j c)) (touched_more _ _ (sym (told c.before.before) ∙ w.0.taken) (in_range c) known.3 (object c) (w.5.ensures ∙ step.tx_is) w.6.ensures
+          (w.8.ensures ∙ ap₂ touched_row step.kind_is step.obj_is) w.9.ensures))
+          (λ w. rw (w.1, add-one (j c)) (touches_none _ (open_step _ _ (sym (told c.before.before) ∙ w.0.left)) known.3)) c.if-takes_part.branch,
+    )
+
+pub returns : goal.returns
+unfolding steps
+returns c =
+    let e : c.loop-j.j ≡ length c.args.log.now / 4 = omega arith in
+    all_conflict_reasons _ (rw e c c.loop-j.invariant.2)

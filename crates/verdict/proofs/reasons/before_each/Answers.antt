@@ -1,0 +1,53 @@
+-- `before_each` meets its contract.
+use mathlib.Core.Path.{refl}
+use Prim.Native.Nat.{◌-◌, ◌≤◌}
+use native.Mathlib.Omega.{arith}
+use Rattle.verdict.specs.Limits.{transactions}
+use Rattle.verdict.proofs.Standing.{stood_none, stood_more, stood_all}
+use Rattle.verdict.proofs.reasons.before_each.Lts
+use Rattle.verdict.proofs.reasons.before_each.Tie as tie
+use Rattle.verdict.proofs.reasons.before_each.Reads
+use Rattle.verdict.proofs.reasons.before_each.Goals as goal
+
+-- places on the way, by the names that the toolchain gives them
+abbrev After-index : Type 0
+After-index = Lts.After-index tie.the-claims Reads.Pre Reads.Post goal.the-invariant-loop-i goal.the-decreases-loop-i
+
+known : (c : After-index) → c.index.result ≤ transactions
+known c = rw c.index.ensures (c.requires.high c.loop-i.i (omega arith))
+
+pub overflow_sub-last : goal.overflow_sub-last
+overflow_sub-last c = c.requires.any
+
+pub offset_bounds-members-members : goal.offset_bounds-members-members
+offset_bounds-members-members c = omega arith
+
+pub bounds-members-members : goal.bounds-members-members
+bounds-members-members c = omega (arith, c.requires.any)
+
+pub loop-i-init : goal.loop-i-init
+loop-i-init c = stood_none c.requires refl
+
+pub offset_bounds-members-i : goal.offset_bounds-members-i
+offset_bounds-members-i c = omega arith
+
+pub bounds-members-i : goal.bounds-members-i
+bounds-members-i c = c.loop-i-test.true
+
+pub offset_bounds-before-index : goal.offset_bounds-before-index
+offset_bounds-before-index c = omega (arith, known c.before)
+
+pub bounds-before-index : goal.bounds-before-index
+bounds-before-index c = omega (arith, known c.before)
+
+pub overflow_add-i : goal.overflow_add-i
+overflow_add-i c = omega arith
+
+pub loop-i-smaller : goal.loop-i-smaller
+loop-i-smaller c = omega arith
+
+pub loop-i-preserved : goal.loop-i-preserved
+loop-i-preserved c = rw c.index.ensures (stood_more c.requires c.loop-i.invariant (omega arith) refl)
+
+pub returns : goal.returns
+returns c = stood_all c.requires c.loop-i.invariant (omega (arith, c.loop-i.invariant.within))

@@ -1,0 +1,40 @@
+-- `needed_objects` meets its contract.
+use mathlib.Core.Path.{ap}
+use mathlib.Core.Logic.{⊎_elim}
+use Prim.Native.Nat.{ℕ, ◌*◌}
+use native.Mathlib.Omega.{arith}
+use Rattle.verdict.proofs.NeededMarks.{needed_nothing, needed_none_of, needed_some_of, needed_all_of}
+use Rattle.verdict.proofs.search.needed_objects.Goals as goal
+
+pub overflow_mul-row : goal.overflow_mul-row
+overflow_mul-row c = omega (arith, c.index-row.ensures, c.requires)
+
+pub loop-x-init : goal.loop-x-init
+loop-x-init c = (omega arith, ap (λ (n : ℕ). n * 64) c.index-row.ensures, c.requires, needed_nothing _ _)
+
+pub overflow_add-row : goal.overflow_add-row
+overflow_add-row c = omega arith
+
+pub offset_bounds-need-row : goal.offset_bounds-need-row
+offset_bounds-need-row c = omega arith
+
+pub bounds-need-row : goal.bounds-need-row
+bounds-need-row c = omega arith
+
+pub overflow_add-x : goal.overflow_add-x
+overflow_add-x c = omega arith
+
+pub loop-x-smaller : goal.loop-x-smaller
+loop-x-smaller c = omega arith
+
+pub loop-x-preserved : goal.loop-x-preserved
+loop-x-preserved c =
+    let inv = c.loop-x.invariant in (
+      omega arith,
+      inv.1,
+      inv.2,
+      ⊎_elim (λ w. rw (w.2, w.1.ensures) (needed_some_of inv.3 (omega arith) (rw inv.1 at w.0.taken))) (λ w. rw w.1 (needed_none_of inv.3 (rw inv.1 at w.0.left))) c.if-need-row-ne0.branch,
+    )
+
+pub returns : goal.returns
+returns c = needed_all_of c.loop-x.invariant.3 (omega arith)

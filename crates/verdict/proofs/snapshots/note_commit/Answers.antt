@@ -1,0 +1,78 @@
+-- `note_commit` meets its contract.
+use mathlib.Core.Path.{◌≡◌, refl, sym, ap, ◌∙◌}
+use mathlib.Core.List.{List}
+use Prim.Native.Nat.{ℕ, ◌+◌, ◌≤◌}
+use native.Mathlib.Omega.{arith}
+use Rattle.bits.specs.Table.{Puts}
+use Rattle.verdict.specs.Limits.{transactions}
+use Rattle.verdict.specs.Log.{steps, kind, tx}
+use Rattle.verdict.specs.Snapshot.{snapshot_step}
+use Rattle.verdict.specs.Inner.Clashes.{LastCommits}
+use Rattle.verdict.proofs.WellFormed.{well_formed, steps_within}
+use Rattle.verdict.proofs.SnapshotLaws.{no_commit, begin_at}
+use Rattle.verdict.proofs.Clashing.{other_step, commit_more, none_since}
+use lib.ListN.{get_or}
+use Rattle.verdict.proofs.snapshots.note_commit.Lts
+use Rattle.verdict.proofs.snapshots.note_commit.Tie as tie
+use Rattle.verdict.proofs.snapshots.note_commit.Reads
+use Rattle.verdict.proofs.snapshots.note_commit.Goals as goal
+
+-- places on the way, by the names that the toolchain gives them
+abbrev After-put_marked : Type 0
+After-put_marked = Lts.After-put_marked tie.the-claims Reads.Pre Reads.Post
+
+abbrev After-struct_known-1 : Type 0
+After-struct_known-1 = Lts.After-struct_known tie.the-claims Reads.Pre Reads.Post
+
+-- its transaction is in range
+in-range : (c : After-struct_known-1) → (1 ≤ c.step_at-step.result.tx) × (c.step_at-step.result.tx ≤ transactions)
+in-range c = rw c.step_at-step.ensures.tx_is ((well_formed _ c.requires.0).range c.args.j c.requires.4)
+
+-- the commit of step j, noted
+module _ (c : After-put_marked) where
+  abbrev here : After-struct_known-1
+  here = c.before.before.before.before.before.before.before.before
+
+  is_commit : kind here.args.log.now here.args.j ≡ 4
+  is_commit = omega (arith, here.step_at-step.ensures.kind_is, c.if-step-ne-COMMIT.false)
+
+  committing : c.index.result ≡ tx here.args.log.now here.args.j
+  committing = c.index.ensures ∙ here.step_at-step.ensures.tx_is
+
+  last_then : {next : List ℕ} → Puts here.args.last.now (get_or here.args.writes.now c.index.result 0) here.args.j next → LastCommits here.args.log.now (here.args.j + 1) next
+  last_then put = commit_more _ _ here.requires.3 here.requires.1 committing (omega (arith, c.index.ensures, (in-range here).1)) is_commit refl put
+
+pub step_at-step-requires : goal.step_at-step-requires
+unfolding steps
+step_at-step-requires c = omega (arith, c.requires.4)
+
+pub returns-then-step-ne-COMMIT : goal.returns-then-step-ne-COMMIT
+returns-then-step-ne-COMMIT c =
+    let n : kind c.args.log.now c.args.j ≡ 4 → ⊥ = λ e. c.if-step-ne-COMMIT.true (c.step_at-step.ensures.kind_is ∙ e) in
+    record { last = other_step _ _ c.requires.3 n; nobody = λ _ p. no_commit _ _ p n; commit = λ h. absurd (h refl) }
+
+pub bounds-writes-index : goal.bounds-writes-index
+bounds-writes-index c = omega (arith, c.index.ensures, (in-range c.before.before.before.before).1)
+
+pub step_of-requires : goal.step_of-requires
+step_of-requires c = (in-range c.before.before.before.before.before).1
+
+pub overflow_cast-j : goal.overflow_cast-j
+overflow_cast-j c =
+    omega (arith, c.requires.4, steps_within _ c.requires.0)
+
+pub returns-then-since : goal.returns-then-since
+returns-then-since c =
+    let step_is = (here c).step_at-step.ensures in
+    record { last = last_then c c.put_marked.ensures; nobody = λ e. absurd (omega (arith, e, (in-range (here c)).0)); commit = λ _. (is_commit c, sym step_is.tx_is, (in-range (here c)).1) }
+
+pub returns : goal.returns
+returns c =
+    let s = entry (here c) in
+    let index_is = c.index.ensures in
+    let begin = c.step_of.ensures ∙ begin_at _ _ (in-range (here c)).1 s.requires.2 ∙ ap (snapshot_step s.args.log.now) (sym index_is) in
+    record {
+      last = last_then c c.put_marked.ensures;
+      nobody = λ _. none_since _ _ s.requires.3 s.requires.1 (committing c) (omega (arith, index_is, (in-range (here c)).1)) (well_formed _ s.requires.0) begin (sym c.marked_above-since.ensures ∙ c.if-since.false);
+      commit = λ h. absurd (h refl);
+    }

@@ -1,0 +1,5 @@
+-- `next_of` meets its contract.
+use Rattle.verdict.proofs.tables.next_of.Goals as goal
+
+pub returns : goal.returns
+returns c = rw (← c.index-row.ensures, ← c.index-column.ensures) c.number.ensures

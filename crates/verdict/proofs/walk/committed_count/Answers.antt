@@ -1,0 +1,42 @@
+-- `committed_count` meets its contract.
+use mathlib.Core.Path.{◌≡◌, refl, sym, ap, ◌∙◌}
+use mathlib.Core.Logic.{⊎_elim}
+use Prim.Native.Nat.{suc, ◌/◌}
+use native.Mathlib.Omega.{arith}
+use native.Mathlib.Numerals.{add-one}
+use lib.ListN.{length}
+use Rattle.words.specs.Tests.{◌is◌, count}
+use Rattle.words.proofs.Truth.{→is, →isnt, count_yes, count_no}
+use Rattle.verdict.specs.Log.{steps, committed_count}
+use Rattle.verdict.proofs.walk.committed_count.Goals as goal
+
+pub loop-i-init : goal.loop-i-init
+unfolding count
+loop-i-init c = (refl, omega arith, omega arith, refl)
+
+pub step_at-step-requires : goal.step_at-step-requires
+step_at-step-requires c = omega arith
+
+pub overflow_add-total : goal.overflow_add-total
+overflow_add-total c = omega arith
+
+pub overflow_add-i : goal.overflow_add-i
+overflow_add-i c = omega arith
+
+pub loop-i-smaller : goal.loop-i-smaller
+loop-i-smaller c = omega arith
+
+pub loop-i-preserved : goal.loop-i-preserved
+loop-i-preserved c =
+    let inv = c.loop-i.invariant in
+    let step = c.step_at-step.ensures in (
+      refl,
+      omega arith,
+      ⊎_elim (λ w. omega (arith, w.1)) (λ w. omega (arith, w.1)) c.if-step-eq-COMMIT.branch,
+      ⊎_elim (λ w. w.1 ∙ add-one _ ∙ ap suc inv.3 ∙ sym (count_yes _ _ (→is (sym step.kind_is ∙ w.0.taken))))
+          (λ w. w.1 ∙ inv.3 ∙ sym (count_no _ _ (→isnt (λ e. w.0.left (step.kind_is ∙ e))))) c.if-step-eq-COMMIT.branch,
+    )
+
+pub returns : goal.returns
+unfolding committed_count steps
+returns c = let e : c.loop-i.i ≡ length c.args.log.now / 4 = omega arith in rw (← e) c.loop-i.invariant.3

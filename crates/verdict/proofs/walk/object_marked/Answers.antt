@@ -1,0 +1,5 @@
+-- `object_marked` meets its contract.
+use Rattle.verdict.proofs.walk.object_marked.Goals as goal
+
+pub returns : goal.returns
+returns c = rw (c.index-at.ensures, c.index.ensures) at c.has_mark.ensures
