@@ -75,7 +75,7 @@ module _ (c : After-index-t) where
 
 -- a step that is no write
 unwritten : (c : Else-step-eq-WRITE) → WritesFrom (the_log c.before) (i c.before) c.loop-i.later
-unwritten c = later_skip _ _ (behind c) (in_log c) (λ e. c.if-step-eq-WRITE.false (c.step_at-step.ensures.kind_is ∙ e))
+unwritten c = later_skip _ _ (behind c.before) (in_log c.before) (λ e. c.if-step-eq-WRITE.false (c.step_at-step.ensures.kind_is ∙ e))
 
 pub loop-i-init : goal.loop-i-init
 unfolding steps
@@ -89,16 +89,16 @@ unfolding steps
 step_at-step-requires c = omega arith
 
 pub offset_bounds-later-t : goal.offset_bounds-later-t
-offset_bounds-later-t c = omega (arith, place_in c)
+offset_bounds-later-t c = omega (arith, place_in c.before)
 
 pub bounds-later-t : goal.bounds-later-t
-bounds-later-t c = place_in c
+bounds-later-t c = place_in c.before
 
 pub offset_bounds-later-t-then-step-eq-WRITE : goal.offset_bounds-later-t-then-step-eq-WRITE
-offset_bounds-later-t-then-step-eq-WRITE c = omega (arith, place_in c.before.before)
+offset_bounds-later-t-then-step-eq-WRITE c = omega (arith, place_in c.before.before.before)
 
 pub bounds-later-t-then-step-eq-WRITE : goal.bounds-later-t-then-step-eq-WRITE
-bounds-later-t-then-step-eq-WRITE c = place_in c.before.before
+bounds-later-t-then-step-eq-WRITE c = place_in c.before.before.before
 
 pub loop-i-smaller-then-step-eq-WRITE : goal.loop-i-smaller-then-step-eq-WRITE
 loop-i-smaller-then-step-eq-WRITE c = omega arith
@@ -107,27 +107,27 @@ pub loop-i-preserved-then-step-eq-WRITE : goal.loop-i-preserved-then-step-eq-WRI
 loop-i-preserved-then-step-eq-WRITE c =
     let object-is = c.index.ensures ∙ c.step_at-step.ensures.obj_is in (
       omega arith,
-      rw (c.with_mark.ensures, place_is c, object-is, if_true _ _ (→below (object_in c))) (later_more _ _ (behind c) (in_log c) (is_write c) (tx_in c)),
-      fault_stays c (not_faulty _ _ (other_kind _ _ (λ (e : kind (the_log c) (i c) ≡ 2). omega (arith, is_write c)))),
+      rw (c.with_mark.ensures, place_is c.before.before.before, object-is, if_true _ _ (→below (object_in c.before.before.before))) (later_more _ _ (behind c.before.before.before.before.before) (in_log c.before.before.before.before.before) (is_write c.before.before.before) (tx_in c.before.before.before)),
+      fault_stays c.before.before.before.before.before (not_faulty _ _ (other_kind _ _ (λ (e : kind (the_log c.before.before.before.before.before) (i c.before.before.before.before.before) ≡ 2). omega (arith, is_write c.before.before.before)))),
     )
 
 pub is_faulty-requires : goal.is_faulty-requires
 unfolding steps
-is_faulty-requires c = (c.requires.0, omega arith, c.requires.1, behind c)
+is_faulty-requires c = (c.requires.0, omega arith, c.requires.1, behind c.before.before.before)
 
 pub loop-i-smaller-then-is_faulty : goal.loop-i-smaller-then-is_faulty
 loop-i-smaller-then-is_faulty c = omega arith
 
 pub loop-i-preserved-then-is_faulty : goal.loop-i-preserved-then-is_faulty
 loop-i-preserved-then-is_faulty c =
-    (omega arith, unwritten c.before.before.before.before, sym (from_here _ (source_fault (the_log c)) _ (in_log c) (sym c.is_faulty.ensures ∙ c.if-is_faulty.true)))
+    (omega arith, unwritten c.before.before.before.before, sym (from_here _ (source_fault (the_log c.before.before.before.before.before)) _ (in_log c.before.before.before.before.before) (sym c.is_faulty.ensures ∙ c.if-is_faulty.true)))
 
 pub loop-i-smaller : goal.loop-i-smaller
 loop-i-smaller c = omega arith
 
 pub loop-i-preserved : goal.loop-i-preserved
 loop-i-preserved c =
-    (omega arith, unwritten c.before.before.before.before, fault_stays c.before (sym c.is_faulty.ensures ∙ c.if-is_faulty.false))
+    (omega arith, unwritten c.before.before.before.before, fault_stays c.before.before.before.before.before (sym c.is_faulty.ensures ∙ c.if-is_faulty.false))
 
 pub returns : goal.returns
 returns c = let e : c.loop-i.i ≡ 0 = omega arith in rw e at c.loop-i.invariant.2 ∙ from_first _ (source_fault c.args.log.now)

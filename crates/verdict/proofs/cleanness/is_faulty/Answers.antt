@@ -48,8 +48,8 @@ module _ (c : Else-step-ne-READ) where
   object_in : obj c.args.log.now c.args.i < objects
   object_in = (well_formed _ c.requires.0).object _ in_log (inl is_read)
 
-not-zero : (c : Else-s-eq0) → src c.args.log.now c.args.i ≡ 0 → ⊥
-not-zero c e = c.if-s-eq0.false (c.step_at-step.ensures.src_is ∙ e)
+not_zero : (c : Else-s-eq0) → src c.args.log.now c.args.i ≡ 0 → ⊥
+not_zero c e = c.if-s-eq0.false (c.step_at-step.ensures.src_is ∙ e)
 
 -- who committed, by the marks
 reader : (c : After-takes_part) {v : Bool} → c.takes_part.result ≡ v → let a = c.args in committed a.log.now (tx a.log.now a.i) ≡ v
@@ -59,10 +59,10 @@ source : (c : After-takes_part-2) {v : Bool} → c.takes_part-2.result ≡ v →
 source c q = sym (told_committed c.requires.2 c.takes_part-2.ensures c.step_at-step.ensures.src_is) ∙ q
 
 -- a judged read from another
-is-judged : (c : Else-not-takes_part) → let a = c.args in judged_other a.log.now a.i ≡ true
-is-judged c =
+is_judged : (c : Else-not-takes_part) → let a = c.args in judged_other a.log.now a.i ≡ true
+is_judged c =
     let step = c.step_at-step.ensures in
-    judged_read _ _ (is_read c.before) (λ e. c.if-s-t.false (step.src_is ∙ e ∙ sym step.tx_is)) (reader c.before c.if-not-takes_part.false)
+    judged_read _ _ (is_read c.before.before.before.before) (λ e. c.if-s-t.false (step.src_is ∙ e ∙ sym step.tx_is)) (reader c.before c.if-not-takes_part.false)
 
 pub returns-then-step-ne-READ : goal.returns-then-step-ne-READ
 returns-then-step-ne-READ c = sym (not_faulty _ _ (other_kind _ _ (λ e. c.if-step-ne-READ.true (c.step_at-step.ensures.kind_is ∙ e))))
@@ -77,7 +77,7 @@ returns-then-s-eq0 c = sym (source_zero _ _ (sym c.step_at-step.ensures.src_is �
 
 pub takes_part-requires : goal.takes_part-requires
 takes_part-requires c =
-    let r = (well_formed _ c.requires.0).range _ (in_log c) in
+    let r = (well_formed _ c.requires.0).range _ (in_log c.before.before.before) in
     let e = c.step_at-step.ensures.tx_is in
     (omega (arith, r.0, e), omega (arith, r.1, e))
 
@@ -87,18 +87,18 @@ returns-then-not-takes_part c = sym (not_faulty _ _ (reader_fails _ _ (reader c.
 pub takes_part-requires-2 : goal.takes_part-requires-2
 takes_part-requires-2 c =
     let e = c.step_at-step.ensures.src_is in
-    (omega (arith, c.if-s-eq0.false), omega (arith, source_in c.before.before, e))
+    (omega (arith, c.if-s-eq0.false), omega (arith, source_in c.before.before.before.before.before, e))
 
 pub returns-then-not-takes_part-2 : goal.returns-then-not-takes_part-2
 returns-then-not-takes_part-2 c =
-    sym (source_open _ _ (is-judged c.before.before.before) (not-zero c.before.before.before.before.before) (source c.before.before c.if-not-takes_part-2.true))
+    sym (source_open _ _ (is_judged c.before.before.before) (not_zero c.before.before.before.before.before) (source c.before.before c.if-not-takes_part-2.true))
 
 pub object_marked-requires : goal.object_marked-requires
 object_marked-requires c =
-    omega (arith, source_in c, c.step_at-step.ensures.src_is)
+    omega (arith, source_in c.before.before.before.before.before.before.before, c.step_at-step.ensures.src_is)
 
 pub returns : goal.returns
 returns c =
     let step = c.step_at-step.ensures in
-    by_later _ _ c.requires.3 (source_in c) (object_in c) step.src_is step.obj_is c.object_marked.ensures
-    ∙ sym (source_later _ _ (is-judged c.before.before.before.before) (not-zero c.before.before.before.before.before.before) (source c.before.before.before c.if-not-takes_part-2.false))
+    by_later _ _ c.requires.3 (source_in c.before.before.before.before.before.before.before.before) (object_in c.before.before.before.before.before.before.before.before) step.src_is step.obj_is c.object_marked.ensures
+    ∙ sym (source_later _ _ (is_judged c.before.before.before.before) (not_zero c.before.before.before.before.before.before) (source c.before.before.before c.if-not-takes_part-2.false))

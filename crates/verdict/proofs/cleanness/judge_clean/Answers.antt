@@ -55,10 +55,10 @@ module _ (c : After-step_at-step) where
   source_in = well.sources k in_log read_there
 
 -- its source has aborted where it has not committed
-source : (c : After-takes_part) {v : Bool} → c.takes_part.result ≡ v → aborted (start c).args.log.now (src (start c).args.log.now (k c)) ≡ fails v
+source : (c : After-takes_part) {v : Bool} → c.takes_part.result ≡ v → aborted (start c.before).args.log.now (src (start c.before).args.log.now (k c.before)) ≡ fails v
 source c q =
-    aborted_else _ (start c).requires.0 _ _ (source_in c) ((well c).source (k c) (in_log c) (read_there c) (faulty_source _ (k c) (at_fault c)))
-    ∙ ap fails (sym (told_committed (start c).requires.1 c.takes_part.ensures c.step_at-step.ensures.src_is) ∙ q)
+    aborted_else _ (start c.before).requires.0 _ _ (source_in c.before) ((well c.before).source (k c.before) (in_log c.before) (read_there c.before) (faulty_source _ (k c.before) (at_fault c.before)))
+    ∙ ap fails (sym (told_committed (start c.before).requires.1 c.takes_part.ensures c.step_at-step.ensures.src_is) ∙ q)
 
 pub returns-then-n-own : goal.returns-then-n-own
 unfolding steps
@@ -77,13 +77,13 @@ step_at-step-requires c =
 
 pub takes_part-requires : goal.takes_part-requires
 takes_part-requires c =
-    let n = faulty_source _ (k c) (at_fault c) in
-    (omega (arith, c.step_at-step.ensures.src_is, n), omega (arith, c.step_at-step.ensures.src_is, source_in c))
+    let n = faulty_source _ (k c.before) (at_fault c.before) in
+    (omega (arith, c.step_at-step.ensures.src_is, n), omega (arith, c.step_at-step.ensures.src_is, source_in c.before))
 
 pub returns-then-takes_part : goal.returns-then-takes_part
 returns-then-takes_part c =
-    sym (from_unfinal _ (start c).requires.2 c.first_fault-k.ensures (earlier c) (source c.before.before c.if-takes_part.true ∙ →not_fails refl))
+    sym (from_unfinal _ (start c.before.before.before).requires.2 c.first_fault-k.ensures (earlier c.before.before.before) (source c.before.before c.if-takes_part.true ∙ →not_fails refl))
 
 pub returns : goal.returns
 returns c =
-    sym (from_aborted _ (start c).requires.2 c.first_fault-k.ensures (earlier c) (source c.before.before c.if-takes_part.false ∙ →fails refl))
+    sym (from_aborted _ (start c.before.before.before).requires.2 c.first_fault-k.ensures (earlier c.before.before.before) (source c.before.before c.if-takes_part.false ∙ →fails refl))

@@ -56,11 +56,11 @@ slice_bounds-conflict_cycle-end c = (front c.before.before.before.before.before)
 
 pub conflict_cycle-requires : goal.conflict_cycle-requires
 conflict_cycle-requires c =
-    let q = (start c).pre in
-    (q.0, q.1, (shown_cycle {on = conflict_on (start c).args.log.now} (shown c) c.enum_told-in-Cycle-1.given.1 (front c).same).0)
+    let q = (start c.before.before.before.before.before).requires in
+    (q.0, q.1, (shown_cycle {on = conflict_on (start c.before.before.before.before.before).args.log.now} (shown c.before.before.before.before.before) c.in-Cycle.is (front c.before.before.before.before.before).same).0)
 
 pub returns-in-Order : goal.returns-in-Order
-returns-in-Order c = held _ (shown_order (shown c) c.enum_told-1.given.1 (front c).same) c.an_order.ensures
+returns-in-Order c = held _ (shown_order (shown c.before.before.before.before.before) c.in-Order.is (front c.before.before.before.before.before).same) c.an_order.ensures
 
 pub returns-in-Cycle : goal.returns-in-Cycle
-returns-in-Cycle c = held _ (shown_cycle (shown c) c.enum_told-in-Cycle-1.given.1 (front c).same).1 c.conflict_cycle.ensures
+returns-in-Cycle c = held _ (shown_cycle (shown c.before.before.before.before.before.before) c.in-Cycle.is (front c.before.before.before.before.before.before).same).1 c.conflict_cycle.ensures

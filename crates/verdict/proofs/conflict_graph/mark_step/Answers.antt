@@ -45,39 +45,39 @@ module _ (c : After-step_at-step) where
 told : (c : After-takes_part) → c.takes_part.result ≡ committed (the_log c.before) (tx (the_log c.before) (i c.before))
 told c = told_committed c.requires.2 c.takes_part.ensures c.step_at-step.ensures.tx_is
 
-by-committed : (c : Else-not-takes_part) → committed (the_log c) (tx (the_log c) (i c)) ≡ true
-by-committed c = sym (told c.before) ∙ c.if-not-takes_part.false
+by_committed : (c : Else-not-takes_part) → committed (the_log c.before.before) (tx (the_log c.before.before) (i c.before.before)) ≡ true
+by_committed c = sym (told c.before) ∙ c.if-not-takes_part.false
 
 pub takes_part-requires : goal.takes_part-requires
-takes_part-requires c = rw c.step_at-step.ensures.tx_is (in_range c)
+takes_part-requires c = rw c.step_at-step.ensures.tx_is (in_range c.before)
 
 pub returns-then-not-takes_part : goal.returns-then-not-takes_part
 returns-then-not-takes_part c =
     let q = c.requires in
-    let idle = open_step _ (i c) (sym (told c.before.before) ∙ c.if-not-takes_part.true) in
+    let idle = open_step _ (i c.before.before.before) (sym (told c.before.before) ∙ c.if-not-takes_part.true) in
     (ends_none _ idle q.3, touches_none _ idle q.4)
 
 pub touch-requires : goal.touch-requires
-touch-requires c = rw c.step_at-step.ensures.obj_is (object c)
+touch-requires c = rw c.step_at-step.ensures.obj_is (object c.before.before.before.before.before.before.before)
 
 pub returns-then-step-eq-READ : goal.returns-then-step-eq-READ
 returns-then-step-eq-READ c =
     let step = c.step_at-step.ensures in
     let q = c.requires in
-    step_touches _ _ (by-committed c.before.before.before.before.before.before) (in_range c) q.4 (object c) q.3 (sym c.if-step-eq-READ.true ∙ step.kind_is) step.tx_is step.obj_is c.touch.ensures
+    step_touches _ _ (by_committed c.before.before.before.before.before.before) (in_range c.before.before.before.before.before.before.before.before) q.4 (object c.before.before.before.before.before.before.before.before) q.3 (sym c.if-step-eq-READ.true ∙ step.kind_is) step.tx_is step.obj_is c.touch.ensures
 
 pub touch-requires-then-step-eq-WRITE : goal.touch-requires-then-step-eq-WRITE
-touch-requires-then-step-eq-WRITE c = rw c.step_at-step.ensures.obj_is (object c)
+touch-requires-then-step-eq-WRITE c = rw c.step_at-step.ensures.obj_is (object c.before.before.before.before.before.before.before.before.before)
 
 pub returns-then-step-eq-WRITE : goal.returns-then-step-eq-WRITE
 returns-then-step-eq-WRITE c =
     let step = c.step_at-step.ensures in
     let q = c.requires in
-    step_touches _ _ (by-committed c.before.before.before.before.before.before.before.before) (in_range c) q.4 (object c) q.3 (sym c.if-step-eq-WRITE.true ∙ step.kind_is) step.tx_is step.obj_is c.touch-then-step-eq-WRITE.ensures
+    step_touches _ _ (by_committed c.before.before.before.before.before.before.before.before) (in_range c.before.before.before.before.before.before.before.before.before.before) q.4 (object c.before.before.before.before.before.before.before.before.before.before) q.3 (sym c.if-step-eq-WRITE.true ∙ step.kind_is) step.tx_is step.obj_is c.touch-then-step-eq-WRITE.ensures
 
 pub returns-else-step-eq-WRITE : goal.returns-else-step-eq-WRITE
 returns-else-step-eq-WRITE c =
     let q = c.requires in
     let step = c.step_at-step.ensures in
-    let idle = other_step _ (i c) (λ e. c.if-step-eq-READ.false (step.kind_is ∙ e)) (λ e. c.if-step-eq-WRITE.false (step.kind_is ∙ e)) in
+    let idle = other_step _ (i c.before.before.before.before.before.before.before) (λ e. c.if-step-eq-READ.false (step.kind_is ∙ e)) (λ e. c.if-step-eq-WRITE.false (step.kind_is ∙ e)) in
     (ends_none _ idle q.3, touches_none _ idle q.4)

@@ -56,7 +56,7 @@ module _ (c : After-step_at-step) where
 
 -- what the marks say of its transaction
 told : (c : After-takes_part) → c.takes_part.result ≡ committed (the_log c.before) (tx (the_log c.before) (j c.before))
-told c = told_committed (start c.before).pre.1 c.takes_part.ensures c.step_at-step.ensures.tx_is
+told c = told_committed (start c.before).requires.1 c.takes_part.ensures c.step_at-step.ensures.tx_is
 
 placed : (c : After-index) → c.index.result ≡ tx (the_log c.before.before.before.before.before) (j c.before.before.before.before.before)
 placed c = c.index.ensures ∙ c.step_at-step.ensures.tx_is
@@ -69,21 +69,21 @@ pub step_at-step-requires : goal.step_at-step-requires
 step_at-step-requires c = omega arith
 
 pub takes_part-requires : goal.takes_part-requires
-takes_part-requires c = rw c.step_at-step.ensures.tx_is (in_range c)
+takes_part-requires c = rw c.step_at-step.ensures.tx_is (in_range c.before)
 
 pub offset_bounds-before-index : goal.offset_bounds-before-index
-offset_bounds-before-index c = omega (arith, placed c.before, (in_range c.before.before.before.before.before).1)
+offset_bounds-before-index c = omega (arith, placed c.before, (in_range c.before.before.before.before.before.before).1)
 
 pub bounds-before-index : goal.bounds-before-index
-bounds-before-index c = omega (arith, placed c.before, (in_range c.before.before.before.before.before).1)
+bounds-before-index c = omega (arith, placed c.before, (in_range c.before.before.before.before.before.before).1)
 
 pub offer_earlier-requires : goal.offer_earlier-requires
 offer_earlier-requires c =
-    (c.loop-j.invariant.2.size, c.before_each-before.ensures.within _ (omega (arith, placed c.before, (in_range c).1)), rw c.step_at-step.ensures.obj_is (object c))
+    (c.loop-j.invariant.2.size, c.before_each-before.ensures.within _ (omega (arith, placed c.before, (in_range c.before.before.before.before.before.before).1)), rw c.step_at-step.ensures.obj_is (object c.before.before.before.before.before.before))
 
 pub touched_row-requires : goal.touched_row-requires
 touched_row-requires c =
-    rw c.step_at-step.ensures.obj_is (object c)
+    rw c.step_at-step.ensures.obj_is (object c.before.before.before.before.before.before.before.before.before.before)
 
 pub overflow_add-j : goal.overflow_add-j
 overflow_add-j c = omega arith
@@ -96,17 +96,17 @@ loop-j-preserved c =
     let step = c.step_at-step.ensures in
     let known = c.loop-j.invariant in
     let stands = c.before_each-before.ensures in
-    let q = (start c).requires in (
+    let q = (start c.before.before.before).requires in (
       refl,
       omega arith,
       ⊎_elim
-          (λ w. rw (w.11, add-one (j c)) (ends_offered (the_log c) stands q.3 (j c) (in_range c).1 known.3 (object c)
+          (λ w. rw (w.11, add-one (j c.before.before.before)) (ends_offered (the_log c.before.before.before) stands q.3 (j c.before.before.before) (in_range c.before.before.before).1 known.3 (object c.before.before.before)
           (w.3.ensures ∙ step.tx_is) step.kind_is step.obj_is (w.4.ensures _ _ q.2 known.2)))
-          (λ w. rw (w.2, add-one (j c)) (ends_nothing (the_log c) stands q.3 (j c) (in_range c).1 q.2 (sym (told c.before.before) ∙ w.0.left) known.2)) c.if-takes_part.branch,
+          (λ w. rw (w.2, add-one (j c.before.before.before)) (ends_nothing (the_log c.before.before.before) stands q.3 (j c.before.before.before) (in_range c.before.before.before).1 q.2 (sym (told c.before.before) ∙ w.0.left) known.2)) c.if-takes_part.branch,
       ⊎_elim
-          (λ w. rw (w.10, add-one (j c)) (touched_more _ _ (sym (told c.before.before) ∙ w.0.taken) (in_range c) known.3 (object c) (w.5.ensures ∙ step.tx_is) w.6.ensures
+          (λ w. rw (w.10, add-one (j c.before.before.before)) (touched_more _ _ (sym (told c.before.before) ∙ w.0.taken) (in_range c.before.before.before) known.3 (object c.before.before.before) (w.5.ensures ∙ step.tx_is) w.6.ensures
           (w.8.ensures ∙ ap₂ touched_row step.kind_is step.obj_is) w.9.ensures))
-          (λ w. rw (w.1, add-one (j c)) (touches_none _ (open_step _ _ (sym (told c.before.before) ∙ w.0.left)) known.3)) c.if-takes_part.branch,
+          (λ w. rw (w.1, add-one (j c.before.before.before)) (touches_none _ (open_step _ _ (sym (told c.before.before) ∙ w.0.left)) known.3)) c.if-takes_part.branch,
     )
 
 pub returns : goal.returns

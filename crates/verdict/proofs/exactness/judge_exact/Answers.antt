@@ -11,15 +11,15 @@ use Rattle.verdict.proofs.exactness.judge_exact.Goals as goal
 
 -- places on the way, by the names that the toolchain gives them
 abbrev In_default : Type 0
-In_default = Lts.After-enum_told tie.the-claims Reads.Pre Reads.Post
+In_default = Lts.Past-After-enum_told tie.the-claims Reads.Pre Reads.Post
 
 -- few enough are committed
 few : (c : In_default) → search_refusal c.args.log.now ≡ Passed
-few c = sym c.admit_search-admitted.ensures ∙ c.enum_told-1.given.1
+few c = sym c.admit_search-admitted.ensures ∙ c.in_default.is
 
 pub returns-in-Refused : goal.returns-in-Refused
 returns-in-Refused c =
-    over _ (search_13 _ (sym c.admit_search-admitted.ensures ∙ c.admitted-1.given.1)) c.exact_without_members.ensures
+    over _ (search_13 _ (sym c.admit_search-admitted.ensures ∙ c.in-Refused.is)) c.exact_without_members.ensures
 
 pub judge_search-found-requires : goal.judge_search-found-requires
 judge_search-found-requires c = let q = c.requires in (q.0, q.1, search_few _ (few c.before), q.2, q.3)

@@ -17,12 +17,12 @@ use Rattle.verdict.proofs.refusal.examine.Goals as goal
 
 -- places on the way, by the names that the toolchain gives them
 abbrev In-Within : Type 0
-In-Within = Lts.After-enum_told tie.the-claims Reads.Pre Reads.Post
+In-Within = Lts.Past-After-enum_told tie.the-claims Reads.Pre Reads.Post
 
 -- the log is no longer than it may be
 within : (c : In-Within) → (steps c.args.log.now upto most_steps) ≡ true
 unfolding steps make_log
-within c = chose_first _ _ _ (sym c.of-made.ensures ∙ c.enum_told-1.given.1) (λ e. let z : ◌≡◌ {A = ℕ} 0 1 = cc in omega arith)
+within c = chose_first _ _ _ (sym c.of-made.ensures ∙ c.in-Within.is) (λ e. let z : ◌≡◌ {A = ℕ} 0 1 = cc in omega arith)
 
 pub returns-then-log-ne0 : goal.returns-then-log-ne0
 returns-then-log-ne0 c = examined_away c.turned_away.ensures (odd_length _ c.if-log-ne0.true)
@@ -30,7 +30,7 @@ returns-then-log-ne0 c = examined_away c.turned_away.ensures (odd_length _ c.if-
 pub returns-in_default : goal.returns-in_default
 unfolding steps make_log
 returns-in_default c =
-    examined_away c.turned_away-in_default.ensures (too_long _ c.if-log-ne0.false (chose_second _ _ _ (sym c.of-made.ensures ∙ c.enum_told-in_default-1.given.1) (λ e. let z : ◌≡◌ {A = ℕ} 0 1 = cc in omega arith)))
+    examined_away c.turned_away-in_default.ensures (too_long _ c.if-log-ne0.false (chose_second _ _ _ (sym c.of-made.ensures ∙ c.in_default.is) (λ e. let z : ◌≡◌ {A = ℕ} 0 1 = cc in omega arith)))
 
 pub check_steps-requires : goal.check_steps-requires
 unfolding steps

@@ -18,8 +18,8 @@ abbrev Joined-taken : Type 0
 Joined-taken = Lts.Joined2 tie.the-claims Reads.Pre Reads.Post goal.the-invariant-loop-i goal.the-decreases-loop-i
 
 -- whether one missed its own write
-some-missed : (c : Joined-taken) → c.if-taken.missed ≡ some (c.loop-i.i + 1) (misses c.args.log.now)
-some-missed c =
+some_missed : (c : Joined-taken) → c.if-taken.missed ≡ some (c.loop-i.i + 1) (misses c.args.log.now)
+some_missed c =
     let told = c.take_step-taken.ensures.told c.if-taken-ne0.false in
     let next = some_next c.loop-i.i (misses c.args.log.now) in
     ⊎_elim (λ w. w.1 ∙ sym (next ∙ →or_right _ (sym told ∙ w.0.taken))) (λ w. w.1 ∙ c.loop-i.invariant.5 ∙ sym (next ∙ or_no _ (sym told ∙ w.0.left))) c.if-taken.branch
@@ -40,7 +40,7 @@ returns-then-taken-ne0 c =
     record {
       says = number ∙ sym (tried_first _ loop.i (omega (arith, loop.invariant.1)) loop.invariant.3 (sym c.take_step-taken.ensures.says ∙ number));
       noted = λ e. absurd (c.if-taken-ne0.true e);
-      some-missed = λ e. absurd (c.if-taken-ne0.true e);
+      some_missed = λ e. absurd (c.if-taken-ne0.true e);
     }
 
 pub overflow_add-i : goal.overflow_add-i
@@ -54,7 +54,7 @@ loop-i-preserved c =
     let inv = c.loop-i.invariant in
     let none = c.if-taken-ne0.false in
     let ends = c.take_step-taken.ensures in
-    (omega arith, inv.1, inv.2, tried_none _ _ inv.3 (sym ends.says ∙ numbered_none _ _ none), ends.noted none, some-missed c.before)
+    (omega arith, inv.1, inv.2, tried_none _ _ inv.3 (sym ends.says ∙ numbered_none _ _ none), ends.noted none, some_missed c.before)
 
 pub returns : goal.returns
 returns c =
@@ -63,5 +63,5 @@ returns c =
     record {
       says = numbered_none _ _ refl ∙ sym (rw (e, inv.1) at inv.3);
       noted = λ _. rw (e, inv.1) at inv.4;
-      some-missed = λ _. rw (e, inv.1) at inv.5;
+      some_missed = λ _. rw (e, inv.1) at inv.5;
     }

@@ -23,7 +23,7 @@ object : (c : goal.After-lowest_mark-x) → (c.lowest_mark-x.result < 64) × (ma
 object c = turn _ (sym c.any_mark.ensures ∙ c.loop-x-test.true) c.lowest_mark-x.ensures
 
 told : (c : After-allows) → let a = c.args in
-    c.allows.result ≡ allows (get_or a.need.now (a.t * objects + at.lowest_mark-x.result) 0) (get_or a.last.now at.lowest_mark-x.result 0)
+    c.allows.result ≡ allows (get_or a.need.now (a.t * objects + c.lowest_mark-x.result) 0) (get_or a.last.now c.lowest_mark-x.result 0)
 told c = rw c.loop-x.invariant.0 at c.allows.ensures
 
 pub overflow_mul-row : goal.overflow_mul-row

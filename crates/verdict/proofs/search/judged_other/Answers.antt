@@ -17,9 +17,9 @@ abbrev After-step_at-step : Type 0
 After-step_at-step = Lts.After-step_at tie.the-claims Reads.Pre Reads.Post
 
 -- the reader is within the limits
-tx-in : (c : After-step_at-step) → let t = tx c.args.log.now c.args.i in (1 ≤ t) × (t ≤ transactions)
+tx_in : (c : After-step_at-step) → let t = tx c.args.log.now c.args.i in (1 ≤ t) × (t ≤ transactions)
 unfolding steps
-tx-in c = (well_formed _ c.requires.0).range c.args.i (omega (arith, c.requires.1))
+tx_in c = (well_formed _ c.requires.0).range c.args.i (omega (arith, c.requires.1))
 
 pub returns-then-step-ne-READ : goal.returns-then-step-ne-READ
 returns-then-step-ne-READ c = sym (other_kind _ _ (λ e. c.if-step-ne-READ.true (c.step_at-step.ensures.kind_is ∙ e)))
@@ -28,7 +28,7 @@ pub returns-then-step : goal.returns-then-step
 returns-then-step c = let step = c.step_at-step.ensures in sym (own_source _ _ (sym step.src_is ∙ c.if-step.true ∙ step.tx_is))
 
 pub takes_part-requires : goal.takes_part-requires
-takes_part-requires c = rw c.step_at-step.ensures.tx_is (tx-in c.before.before.before.before.before)
+takes_part-requires c = rw c.step_at-step.ensures.tx_is (tx_in c.before.before.before.before.before)
 
 pub returns : goal.returns
 returns c =

@@ -21,31 +21,31 @@ use Rattle.verdict.proofs.snapshots.first_clash.Goals as goal
 
 -- places on the way, by the names that the toolchain gives them
 abbrev After-clashes-both : Type 0
-After-clashes-both = Lts.After-clashes tie.the-claims Reads.Pre Reads.Post goal.the-invariant-loop-x goal.the-invariant-loop-p goal.the-invariant-search goal.the-decreases-loop-x goal.the-decreases-loop-p goal.the-decreases-search
+After-clashes-both = Lts.After-clashes tie.the-claims Reads.Pre Reads.Post goal.the-invariant-loop-x goal.the-decreases-loop-x goal.the-invariant-loop-p goal.the-decreases-loop-p goal.the-invariant-search goal.the-decreases-search
 
 abbrev After-has_mark : Type 0
-After-has_mark = Lts.After-has_mark tie.the-claims Reads.Pre Reads.Post goal.the-invariant-loop-x goal.the-invariant-loop-p goal.the-invariant-search goal.the-decreases-loop-x goal.the-decreases-loop-p goal.the-decreases-search
+After-has_mark = Lts.After-has_mark tie.the-claims Reads.Pre Reads.Post goal.the-invariant-loop-x goal.the-decreases-loop-x goal.the-invariant-loop-p goal.the-decreases-loop-p goal.the-invariant-search goal.the-decreases-search
 
 abbrev After-note_commit-t : Type 0
-After-note_commit-t = Lts.After-note_commit tie.the-claims Reads.Pre Reads.Post goal.the-invariant-loop-x goal.the-invariant-loop-p goal.the-invariant-search goal.the-decreases-loop-x goal.the-decreases-loop-p goal.the-decreases-search
+After-note_commit-t = Lts.After-note_commit tie.the-claims Reads.Pre Reads.Post goal.the-invariant-loop-x goal.the-decreases-loop-x goal.the-invariant-loop-p goal.the-decreases-loop-p goal.the-invariant-search goal.the-decreases-search
 
 abbrev Joined-t-ne0 : Type 0
-Joined-t-ne0 = Lts.Joined1 tie.the-claims Reads.Pre Reads.Post goal.the-invariant-loop-x goal.the-invariant-loop-p goal.the-invariant-search goal.the-decreases-loop-x goal.the-decreases-loop-p goal.the-decreases-search
+Joined-t-ne0 = Lts.Joined1 tie.the-claims Reads.Pre Reads.Post goal.the-invariant-loop-x goal.the-decreases-loop-x goal.the-invariant-loop-p goal.the-decreases-loop-p goal.the-invariant-search goal.the-decreases-search
 
-in-log : (c : After-note_commit-t) → c.search.j < steps c.args.log.now
-in-log c = omega (arith, c.requires.4)
+in_log : (c : After-note_commit-t) → c.search.j < steps c.args.log.now
+in_log c = omega (arith, c.requires.4)
 
 -- whether a partner clashes, and whether it does over an object
-clash-is : (c : After-clashes-both) {v : Bool} → some 64 (marked c.clashes-both.result) ≡ v → clash c.args.log.now c.search.j c.loop-p.p ≡ v
-clash-is c q = sym c.clashes-both.ensures ∙ q
+clash_is : (c : After-clashes-both) {v : Bool} → some 64 (marked c.clashes-both.result) ≡ v → clash c.args.log.now c.search.j c.loop-p.p ≡ v
+clash_is c q = sym c.clashes-both.ensures ∙ q
 
-mark-is : (c : After-has_mark) {v : Bool} → c.has_mark.result ≡ v → marked c.clashes-both.result c.loop-x.x ≡ v
-mark-is c q = sym c.has_mark.ensures ∙ q
+mark_is : (c : After-has_mark) {v : Bool} → c.has_mark.result ≡ v → marked c.clashes-both.result c.loop-x.x ≡ v
+mark_is c q = sym c.has_mark.ensures ∙ q
 
 -- nobody clashes at a step that was looked at
-none-clash : (c : Joined-t-ne0) → wrong_commit transactions c.args.log.now c.search.j ≡ false
+none_clash : (c : Joined-t-ne0) → wrong_commit transactions c.args.log.now c.search.j ≡ false
 unfolding wrong_commit
-none-clash c =
+none_clash c =
     ⊎_elim (λ w. let e : w.1.p ≡ 129 = omega (arith, w.1.invariant.0, w.2.left) in rw e at w.1.invariant.1)
     (λ w. →none _ (λ p h. c.note_commit-t.ensures.nobody w.0.left p)) c.if-t-ne0.branch
 
@@ -68,7 +68,7 @@ pub clashes-both-requires : goal.clashes-both-requires
 clashes-both-requires c =
     let pre = c.requires in
     let commit = c.note_commit-t.ensures.commit c.if-t-ne0.true in
-    (pre.0, pre.1, pre.2, pre.3, in-log c.before.before.before.before, commit.0, commit.1, commit.2, omega arith)
+    (pre.0, pre.1, pre.2, pre.3, in_log c.before.before.before.before, commit.0, commit.1, commit.2, omega arith)
 
 pub loop-x-init : goal.loop-x-init
 unfolding some
@@ -85,7 +85,7 @@ pub loop-x-smaller : goal.loop-x-smaller
 loop-x-smaller c = omega arith
 
 pub loop-x-preserved : goal.loop-x-preserved
-loop-x-preserved c = (omega arith, none_next _ _ c.loop-x.invariant.1 (mark-is c.before.before c.if-has_mark.false))
+loop-x-preserved c = (omega arith, none_next _ _ c.loop-x.invariant.1 (mark_is c.before.before c.if-has_mark.false))
 
 pub overflow_add-p : goal.overflow_add-p
 overflow_add-p c = omega arith
@@ -98,7 +98,7 @@ loop-p-preserved c =
     let over =
     ⊎_elim (λ w. let e : w.1.x ≡ 64 = omega (arith, w.1.invariant.0, w.2.left) in rw e at w.1.invariant.1)
     (λ w. →none _ (λ x _. rw w.left (no_mark x))) c.if-both-ne0.branch in
-    (omega arith, none_next _ _ c.loop-p.invariant.1 (clash-is c.before.before over))
+    (omega arith, none_next _ _ c.loop-p.invariant.1 (clash_is c.before.before over))
 
 pub overflow_add-j : goal.overflow_add-j
 overflow_add-j c = omega arith
@@ -107,7 +107,7 @@ pub search-smaller : goal.search-smaller
 search-smaller c = omega arith
 
 pub search-preserved : goal.search-preserved
-search-preserved c = (omega arith, c.note_commit-t.ensures.last, none_next _ _ c.search.invariant.2 (none-clash c.before))
+search-preserved c = (omega arith, c.note_commit-t.ensures.last, none_next _ _ c.search.invariant.2 (none_clash c.before))
 
 pub returns-after-search : goal.returns-after-search
 returns-after-search c = no_clash _ _ _ c.search.invariant.2 _ (omega arith)
@@ -115,4 +115,4 @@ returns-after-search c = no_clash _ _ _ c.search.invariant.2 _ (omega arith)
 pub returns-then-has_mark : goal.returns-then-has_mark
 returns-then-has_mark c =
     let search = c.search in
-    clash_found _ _ search.j search.invariant.2 c.loop-p.p (omega arith) (omega arith) c.loop-p.invariant.1 (clash-is c.before.before.before.before.before.before (→some _ c.loop-x.x (omega arith) (mark-is c.before.before c.if-has_mark.true)))
+    clash_found _ _ search.j search.invariant.2 c.loop-p.p (omega arith) (omega arith) c.loop-p.invariant.1 (clash_is c.before.before.before.before.before.before (→some _ c.loop-x.x (omega arith) (mark_is c.before.before c.if-has_mark.true)))

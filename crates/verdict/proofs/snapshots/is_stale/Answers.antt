@@ -44,51 +44,51 @@ Else-step-ne-READ = Lts.Else1 tie.the-claims Reads.Pre Reads.Post
 known : (c : Else-step-ne-READ) → Well transactions c.args.log.now
 known c = well_formed _ c.requires.0
 
-in-log : (c : Else-step-ne-READ) → c.args.i < steps c.args.log.now
+in_log : (c : Else-step-ne-READ) → c.args.i < steps c.args.log.now
 unfolding steps
-in-log c = omega (arith, c.requires.4)
+in_log c = omega (arith, c.requires.4)
 
 is_read : (c : Else-step-ne-READ) → kind c.args.log.now c.args.i ≡ 2
 is_read c = sym c.step_at-step.ensures.kind_is ∙ c.if-step-ne-READ.false
 
-tx-in : (c : Else-step-ne-READ) → c.step_at-step.result.tx ≤ transactions
-tx-in c = rw c.step_at-step.ensures.tx_is ((known c).range _ (in-log c)).1
+tx_in : (c : Else-step-ne-READ) → c.step_at-step.result.tx ≤ transactions
+tx_in c = rw c.step_at-step.ensures.tx_is ((known c).range _ (in_log c)).1
 
-src-in : (c : Else-step-ne-READ) → c.step_at-step.result.src ≤ transactions
-src-in c = rw c.step_at-step.ensures.src_is ((known c).sources _ (in-log c) (is_read c))
+src_in : (c : Else-step-ne-READ) → c.step_at-step.result.src ≤ transactions
+src_in c = rw c.step_at-step.ensures.src_is ((known c).sources _ (in_log c) (is_read c))
 
-obj-in : (c : Else-step-ne-READ) → c.step_at-step.result.obj < objects
-obj-in c = rw c.step_at-step.ensures.obj_is ((known c).object _ (in-log c) (inl (is_read c)))
+obj_in : (c : Else-step-ne-READ) → c.step_at-step.result.obj < objects
+obj_in c = rw c.step_at-step.ensures.obj_is ((known c).object _ (in_log c) (inl (is_read c)))
 
 -- where its transaction commits
-commit-is : (c : After-step_of) → let a = c.args in c.step_of.result ≡ commit_step a.log.now (tx a.log.now a.i)
-commit-is c =
-    c.step_of.ensures ∙ commit_at _ _ (tx-in c.before.before.before) c.requires.2 ∙ ap (commit_step c.args.log.now) c.step_at-step.ensures.tx_is
+commit_is : (c : After-step_of) → let a = c.args in c.step_of.result ≡ commit_step a.log.now (tx a.log.now a.i)
+commit_is c =
+    c.step_of.ensures ∙ commit_at _ _ (tx_in c.before.before.before) c.requires.2 ∙ ap (commit_step c.args.log.now) c.step_at-step.ensures.tx_is
 
-is-judged : (c : Else-log-step_of) → let a = c.args in judged_other a.log.now a.i ≡ true
+is_judged : (c : Else-log-step_of) → let a = c.args in judged_other a.log.now a.i ≡ true
 unfolding steps
-is-judged c =
+is_judged c =
     let step = c.step_at-step.ensures in
-    judged_read _ _ (is_read c.before.before.before.before) (λ e. c.if-step.false (step.src_is ∙ e ∙ sym step.tx_is)) (has_committed _ _ (omega (arith, c.if-log-step_of.false, commit-is c.before)))
+    judged_read _ _ (is_read c.before.before.before.before) (λ e. c.if-step.false (step.src_is ∙ e ∙ sym step.tx_is)) (has_committed _ _ (omega (arith, c.if-log-step_of.false, commit_is c.before)))
 
 -- where it begins
-begin-is : (c : After-step_of-b) → let a = (other.before.before.before.before c.before.before).args in c.step_of-b.result ≡ snapshot_step a.log.now (tx a.log.now a.i)
-begin-is c =
-    c.step_of-b.ensures ∙ begin_at _ _ (tx-in c.before.before.before.before.before) c.requires.1 ∙ ap (snapshot_step c.args.log.now) c.step_at-step.ensures.tx_is
+begin_is : (c : After-step_of-b) → let a = (other.before.before.before.before c.before.before).args in c.step_of-b.result ≡ snapshot_step a.log.now (tx a.log.now a.i)
+begin_is c =
+    c.step_of-b.ensures ∙ begin_at _ _ (tx_in c.before.before.before.before.before) c.requires.1 ∙ ap (snapshot_step c.args.log.now) c.step_at-step.ensures.tx_is
 
 -- the writer of the next version, and where it commits
-next-is : (c : After-next_of) → let a = (other.before.before.before.before c.before.before.before).args in c.next_of.result ≡ next_writer a.log.now (obj a.log.now a.i) (src a.log.now a.i)
-next-is c =
+next_is : (c : After-next_of) → let a = (other.before.before.before.before c.before.before.before).args in c.next_of.result ≡ next_writer a.log.now (obj a.log.now a.i) (src a.log.now a.i)
+next_is c =
     let step = c.step_at-step.ensures in
-    next_read (known c.before.before.before.before.before.before) c.requires.3 _ (in-log c.before.before.before.before.before.before) (is_read c.before.before.before.before.before.before) step.src_is step.obj_is c.next_of.ensures
+    next_read (known c.before.before.before.before.before.before) c.requires.3 _ (in_log c.before.before.before.before.before.before) (is_read c.before.before.before.before.before.before) step.src_is step.obj_is c.next_of.ensures
 
-next-in : (c : After-next_of) → c.next_of.result ≤ transactions
-next-in c = rw (next-is c) (next_range _ (known c.before.before.before.before.before.before) _ _)
+next_in : (c : After-next_of) → c.next_of.result ≤ transactions
+next_in c = rw (next_is c) (next_range _ (known c.before.before.before.before.before.before) _ _)
 
-next-commit-is : (c : After-step_of-2)
+next_commit_is : (c : After-step_of-2)
     → let a = (other.before.before.before.before c.before.before.before.before).args in c.step_of-2.result ≡ commit_step a.log.now (next_writer a.log.now (obj a.log.now a.i) (src a.log.now a.i))
-next-commit-is c =
-    c.step_of-2.ensures ∙ commit_at _ _ (next-in c.before) c.requires.2 ∙ ap (commit_step c.args.log.now) (next-is c.before)
+next_commit_is c =
+    c.step_of-2.ensures ∙ commit_at _ _ (next_in c.before) c.requires.2 ∙ ap (commit_step c.args.log.now) (next_is c.before)
 
 pub returns-then-step-ne-READ : goal.returns-then-step-ne-READ
 returns-then-step-ne-READ c = sym (not_stale _ _ (other_kind _ _ (λ e. c.if-step-ne-READ.true (c.step_at-step.ensures.kind_is ∙ e))))
@@ -99,36 +99,36 @@ returns-then-step c =
     sym (not_stale _ _ (own_source _ _ (sym step.src_is ∙ c.if-step.true ∙ step.tx_is)))
 
 pub step_of-requires : goal.step_of-requires
-step_of-requires c = tx-in c.before.before.before
+step_of-requires c = tx_in c.before.before.before
 
 pub returns-then-log-step_of : goal.returns-then-log-step_of
 unfolding steps
-returns-then-log-step_of c = sym (not_stale _ _ (reader_fails _ _ (not_committed _ _ (omega (arith, c.if-log-step_of.true, commit-is c.before.before)))))
+returns-then-log-step_of c = sym (not_stale _ _ (reader_fails _ _ (not_committed _ _ (omega (arith, c.if-log-step_of.true, commit_is c.before.before)))))
 
 pub step_of-b-requires : goal.step_of-b-requires
-step_of-b-requires c = tx-in c.before.before.before.before.before
+step_of-b-requires c = tx_in c.before.before.before.before.before
 
 pub next_of-requires : goal.next_of-requires
-next_of-requires c = (src-in c.before.before.before.before.before.before, obj-in c.before.before.before.before.before.before)
+next_of-requires c = (src_in c.before.before.before.before.before.before, obj_in c.before.before.before.before.before.before)
 
 pub step_of-requires-2 : goal.step_of-requires-2
-step_of-requires-2 c = next-in c.before
+step_of-requires-2 c = next_in c.before
 
 pub returns-then-step_of-b : goal.returns-then-step_of-b
 returns-then-step_of-b c =
-    sym (next_committed _ (known c.before.before.before.before.before.before.before.before.before) _ (is-judged c.before.before.before.before.before) (begin-is c.before.before.before.before) (next-commit-is c.before.before) c.if-step_of-b.true)
+    sym (next_committed _ (known c.before.before.before.before.before.before.before.before.before) _ (is_judged c.before.before.before.before.before) (begin_is c.before.before.before.before) (next_commit_is c.before.before) c.if-step_of-b.true)
 
 pub returns-then-step-eq0 : goal.returns-then-step-eq0
 returns-then-step-eq0 c =
     let step = (other.before.before c.before.before).step_at-step.ensures in
-    sym (store_read _ (known c.before.before.before.before.before.before.before.before.before.before.before) _ (is-judged c.before.before.before.before.before.before.before) (begin-is c.before.before.before.before.before.before) (next-commit-is c.before.before.before.before) c.if-step_of-b.false (sym step.src_is ∙ c.if-step-eq0.true))
+    sym (store_read _ (known c.before.before.before.before.before.before.before.before.before.before.before) _ (is_judged c.before.before.before.before.before.before.before) (begin_is c.before.before.before.before.before.before) (next_commit_is c.before.before.before.before) c.if-step_of-b.false (sym step.src_is ∙ c.if-step-eq0.true))
 
 pub step_of-requires-3 : goal.step_of-requires-3
-step_of-requires-3 c = src-in c.before.before.before.before.before.before.before.before.before.before.before
+step_of-requires-3 c = src_in c.before.before.before.before.before.before.before.before.before.before.before
 
 pub returns : goal.returns
 unfolding ◌upto◌
 returns c =
     let step = c.step_at-step.ensures in
-    source_read _ (known c.before.before.before.before.before.before.before.before.before.before.before.before) _ (is-judged c.before.before.before.before.before.before.before.before) (begin-is c.before.before.before.before.before.before.before) (next-commit-is c.before.before.before.before.before)
-    (c.step_of-3.ensures ∙ commit_at _ _ (src-in c.before.before.before.before.before.before.before.before.before.before.before.before) c.requires.2 ∙ ap (commit_step c.args.log.now) step.src_is) (in-log c.before.before.before.before.before.before.before.before.before.before.before.before) c.if-step_of-b.false (λ e. c.if-step-eq0.false (step.src_is ∙ e))
+    source_read _ (known c.before.before.before.before.before.before.before.before.before.before.before.before) _ (is_judged c.before.before.before.before.before.before.before.before) (begin_is c.before.before.before.before.before.before.before) (next_commit_is c.before.before.before.before.before)
+    (c.step_of-3.ensures ∙ commit_at _ _ (src_in c.before.before.before.before.before.before.before.before.before.before.before.before) c.requires.2 ∙ ap (commit_step c.args.log.now) step.src_is) (in_log c.before.before.before.before.before.before.before.before.before.before.before.before) c.if-step_of-b.false (λ e. c.if-step-eq0.false (step.src_is ∙ e))

@@ -22,19 +22,19 @@ abbrev After-struct_known-1 : Type 0
 After-struct_known-1 = Lts.After-struct_known tie.the-claims Reads.Pre Reads.Post goal.the-invariant-loop-j goal.the-decreases-loop-j
 
 -- the transaction of the step is within the limit
-tx-in : (c : After-struct_known-1) → tx c.args.log.now (c.loop-j.j - 1) ≤ transactions
+tx_in : (c : After-struct_known-1) → tx c.args.log.now (c.loop-j.j - 1) ≤ transactions
 unfolding steps
-tx-in c = ((well_formed _ c.loop-j.invariant.2).range (c.loop-j.j - 1) (omega arith)).1
+tx_in c = ((well_formed _ c.loop-j.invariant.2).range (c.loop-j.j - 1) (omega arith)).1
 
 -- whether the step commits a writer, by the mark
-by-writers : (c : After-object_marked) {v : Bool} → c.object_marked.result ≡ v → let a = c.args in commits_writer a.log.now a.x (c.loop-j.j - 1) ≡ v
+by_writers : (c : After-object_marked) {v : Bool} → c.object_marked.result ≡ v → let a = c.args in commits_writer a.log.now a.x (c.loop-j.j - 1) ≡ v
 unfolding commits_writer
-by-writers c q =
+by_writers c q =
     let step = c.step_at-earlier.ensures in
     let known = c.requires in
     let t = c.step_at-earlier.result.tx in
     and_true (→is (sym step.kind_is ∙ c.if-earlier-eq-COMMIT.true))
-    ∙ ap (writer c.args.log.now c.args.x) (sym step.tx_is) ∙ sym (known.1.mark t _ (rw step.tx_is (tx-in c.before.before)) known.3) ∙ sym c.object_marked.ensures ∙ q
+    ∙ ap (writer c.args.log.now c.args.x) (sym step.tx_is) ∙ sym (known.1.mark t _ (rw step.tx_is (tx_in c.before.before)) known.3) ∙ sym c.object_marked.ensures ∙ q
 
 pub loop-j-init : goal.loop-j-init
 loop-j-init c = let q = c.requires in (omega arith, q.2, q.0, refl)
@@ -46,12 +46,12 @@ pub step_at-earlier-requires : goal.step_at-earlier-requires
 step_at-earlier-requires c = omega arith
 
 pub object_marked-requires : goal.object_marked-requires
-object_marked-requires c = omega (arith, c.step_at-earlier.ensures.tx_is, tx-in c.before.before)
+object_marked-requires c = omega (arith, c.step_at-earlier.ensures.tx_is, tx_in c.before.before)
 
 pub returns-then-object_marked : goal.returns-then-object_marked
 returns-then-object_marked c =
     let loop = c.loop-j in
-    ap (λ (t : ℕ). Committed t (loop.j - 1)) c.step_at-earlier.ensures.tx_is ∙ sym (loop.invariant.3 ∙ found_back _ _ loop.j (omega arith) (by-writers c.before.before c.if-object_marked.true))
+    ap (λ (t : ℕ). Committed t (loop.j - 1)) c.step_at-earlier.ensures.tx_is ∙ sym (loop.invariant.3 ∙ found_back _ _ loop.j (omega arith) (by_writers c.before.before c.if-object_marked.true))
 
 pub loop-j-smaller-else-object_marked : goal.loop-j-smaller-else-object_marked
 loop-j-smaller-else-object_marked c = omega arith
@@ -59,7 +59,7 @@ loop-j-smaller-else-object_marked c = omega arith
 pub loop-j-preserved-else-object_marked : goal.loop-j-preserved-else-object_marked
 loop-j-preserved-else-object_marked c =
     let loop = c.loop-j in
-    (omega arith, loop.invariant.1, loop.invariant.2, loop.invariant.3 ∙ further_back _ _ loop.j (omega arith) (by-writers c.before.before c.if-object_marked.false))
+    (omega arith, loop.invariant.1, loop.invariant.2, loop.invariant.3 ∙ further_back _ _ loop.j (omega arith) (by_writers c.before.before c.if-object_marked.false))
 
 pub loop-j-smaller : goal.loop-j-smaller
 loop-j-smaller c = omega arith

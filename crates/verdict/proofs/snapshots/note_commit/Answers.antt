@@ -25,8 +25,8 @@ abbrev After-struct_known-1 : Type 0
 After-struct_known-1 = Lts.After-struct_known tie.the-claims Reads.Pre Reads.Post
 
 -- its transaction is in range
-in-range : (c : After-struct_known-1) → (1 ≤ c.step_at-step.result.tx) × (c.step_at-step.result.tx ≤ transactions)
-in-range c = rw c.step_at-step.ensures.tx_is ((well_formed _ c.requires.0).range c.args.j c.requires.4)
+in_range : (c : After-struct_known-1) → (1 ≤ c.step_at-step.result.tx) × (c.step_at-step.result.tx ≤ transactions)
+in_range c = rw c.step_at-step.ensures.tx_is ((well_formed _ c.requires.0).range c.args.j c.requires.4)
 
 -- the commit of step j, noted
 module _ (c : After-put_marked) where
@@ -40,7 +40,7 @@ module _ (c : After-put_marked) where
   committing = c.index.ensures ∙ here.step_at-step.ensures.tx_is
 
   last_then : {next : List ℕ} → Puts here.args.last.now (get_or here.args.writes.now c.index.result 0) here.args.j next → LastCommits here.args.log.now (here.args.j + 1) next
-  last_then put = commit_more _ _ here.requires.3 here.requires.1 committing (omega (arith, c.index.ensures, (in-range here).1)) is_commit refl put
+  last_then put = commit_more _ _ here.requires.3 here.requires.1 committing (omega (arith, c.index.ensures, (in_range here).1)) is_commit refl put
 
 pub step_at-step-requires : goal.step_at-step-requires
 unfolding steps
@@ -52,10 +52,10 @@ returns-then-step-ne-COMMIT c =
     record { last = other_step _ _ c.requires.3 n; nobody = λ _ p. no_commit _ _ p n; commit = λ h. absurd (h refl) }
 
 pub bounds-writes-index : goal.bounds-writes-index
-bounds-writes-index c = omega (arith, c.index.ensures, (in-range c.before.before.before.before).1)
+bounds-writes-index c = omega (arith, c.index.ensures, (in_range c.before.before.before.before).1)
 
 pub step_of-requires : goal.step_of-requires
-step_of-requires c = (in-range c.before.before.before.before.before).1
+step_of-requires c = (in_range c.before.before.before.before.before).1
 
 pub overflow_cast-j : goal.overflow_cast-j
 overflow_cast-j c =
@@ -63,16 +63,16 @@ overflow_cast-j c =
 
 pub returns-then-since : goal.returns-then-since
 returns-then-since c =
-    let step_is = (here c).step_at-step.ensures in
-    record { last = last_then c c.put_marked.ensures; nobody = λ e. absurd (omega (arith, e, (in-range (here c)).0)); commit = λ _. (is_commit c, sym step_is.tx_is, (in-range (here c)).1) }
+    let step_is = (here c.before.before).step_at-step.ensures in
+    record { last = last_then c.before.before c.put_marked.ensures; nobody = λ e. absurd (omega (arith, e, (in_range (here c.before.before)).0)); commit = λ _. (is_commit c.before.before, sym step_is.tx_is, (in_range (here c.before.before)).1) }
 
 pub returns : goal.returns
 returns c =
-    let s = entry (here c) in
+    let s = entry (here c.before.before) in
     let index_is = c.index.ensures in
-    let begin = c.step_of.ensures ∙ begin_at _ _ (in-range (here c)).1 s.requires.2 ∙ ap (snapshot_step s.args.log.now) (sym index_is) in
+    let begin = c.step_of.ensures ∙ begin_at _ _ (in_range (here c.before.before)).1 s.requires.2 ∙ ap (snapshot_step s.args.log.now) (sym index_is) in
     record {
-      last = last_then c c.put_marked.ensures;
-      nobody = λ _. none_since _ _ s.requires.3 s.requires.1 (committing c) (omega (arith, index_is, (in-range (here c)).1)) (well_formed _ s.requires.0) begin (sym c.marked_above-since.ensures ∙ c.if-since.false);
+      last = last_then c.before.before c.put_marked.ensures;
+      nobody = λ _. none_since _ _ s.requires.3 s.requires.1 (committing c.before.before) (omega (arith, index_is, (in_range (here c.before.before)).1)) (well_formed _ s.requires.0) begin (sym c.marked_above-since.ensures ∙ c.if-since.false);
       commit = λ h. absurd (h refl);
     }

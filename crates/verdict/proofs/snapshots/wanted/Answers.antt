@@ -27,29 +27,29 @@ within : (c : After-step_at-step) → InRange c.args.log.now c.args.i
 unfolding steps
 within c = ranges _ c.requires.0 _ (omega (arith, c.requires.3))
 
-tx-in : (c : After-step_at-step) → c.step_at-step.result.tx ≤ transactions
-tx-in c = rw c.step_at-step.ensures.tx_is (tx_within _ _ (within c)).1
+tx_in : (c : After-step_at-step) → c.step_at-step.result.tx ≤ transactions
+tx_in c = rw c.step_at-step.ensures.tx_is (tx_within _ _ (within c)).1
 
-obj-in : (c : After-step_at-step) → c.step_at-step.result.obj < objects
-obj-in c = rw c.step_at-step.ensures.obj_is (object_within _ _ (within c))
+obj_in : (c : After-step_at-step) → c.step_at-step.result.obj < objects
+obj_in c = rw c.step_at-step.ensures.obj_is (object_within _ _ (within c))
 
 -- where its transaction begins
-begin-is : (c : After-step_of) → let log = c.args.log.now in c.step_of.result ≡ lowest (steps log) (does log 1 c.step_at-step.result.tx)
-begin-is c = c.step_of.ensures ∙ c.requires.2.entry _ (tx-in c.before.before)
+begin_is : (c : After-step_of) → let log = c.args.log.now in c.step_of.result ≡ lowest (steps log) (does log 1 c.step_at-step.result.tx)
+begin_is c = c.step_of.ensures ∙ c.requires.2.entry _ (tx_in c.before.before)
 
 pub returns-then-own : goal.returns-then-own
 returns-then-own c = wanted_own _ _ c.step_at-step.ensures (sym c.requires.4 ∙ c.if-own.true)
 
 pub step_of-requires : goal.step_of-requires
-step_of-requires c = tx-in c.before.before
+step_of-requires c = tx_in c.before.before
 
 pub last_committed-requires : goal.last_committed-requires
 unfolding steps
 last_committed-requires c =
     let log = c.args.log.now in
     let known = c.requires in
-    (known.0, known.1, omega (arith, begin-is c.before, lowest_bound {n = steps log} (does log 1 c.step_at-step.result.tx)), obj-in c.before.before.before)
+    (known.0, known.1, omega (arith, begin_is c.before, lowest_bound {n = steps log} (does log 1 c.step_at-step.result.tx)), obj_in c.before.before.before)
 
 pub returns : goal.returns
 returns c =
-    wanted_there _ _ c.step_at-step.ensures (sym c.requires.4 ∙ c.if-own.false) (begin-is c.before.before) c.last_committed.ensures
+    wanted_there _ _ c.step_at-step.ensures (sym c.requires.4 ∙ c.if-own.false) (begin_is c.before.before) c.last_committed.ensures

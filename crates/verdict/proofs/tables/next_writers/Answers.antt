@@ -19,46 +19,46 @@ use Rattle.verdict.proofs.tables.next_writers.Goals as goal
 abbrev After-index-at : Type 0
 After-index-at = Lts.After-index tie.the-claims Reads.Pre Reads.Post goal.the-invariant-loop-t goal.the-decreases-loop-t
 
-abbrev the-log : After-index-at → List ℕ
-the-log c = c.args.log.now
+abbrev the_log : After-index-at → List ℕ
+the_log c = c.args.log.now
 
-well : (c : After-index-at) → Well transactions (the-log c)
+well : (c : After-index-at) → Well transactions (the_log c)
 well c = well_formed _ c.loop-t.invariant.0
 
 -- the last commit before the steps that are done
-commit : (c : After-index-at) → LastCommit (the-log c) c.loop-t.invariant.3
+commit : (c : After-index-at) → LastCommit (the_log c) c.loop-t.invariant.3
 commit c = last_commit _ _ (λ z. c.loop-t-test.true (c.loop-t.invariant.5 ∙ z))
 
-is-tx : (c : After-index-at) → c.index-at.result ≡ tx (the-log c) (commit c).step
-is-tx c = c.index-at.ensures ∙ c.loop-t.invariant.5 ∙ sym (commit c).by
+is_tx : (c : After-index-at) → c.index-at.result ≡ tx (the_log c) (commit c).step
+is_tx c = c.index-at.ensures ∙ c.loop-t.invariant.5 ∙ sym (commit c).by
 
-step_in : (c : After-index-at) → (commit c).step < steps (the-log c)
+step_in : (c : After-index-at) → (commit c).step < steps (the_log c)
 step_in c = omega (arith, (commit c).below, c.loop-t.invariant.4)
 
-tx-in : (c : After-index-at) → (1 ≤ c.index-at.result) × (c.index-at.result ≤ transactions)
-tx-in c = let r = (well c).range (commit c).step (step_in c) in (omega (arith, is-tx c, r.0), omega (arith, is-tx c, r.1))
+tx_in : (c : After-index-at) → (1 ≤ c.index-at.result) × (c.index-at.result ≤ transactions)
+tx_in c = let r = (well c).range (commit c).step (step_in c) in (omega (arith, is_tx c, r.0), omega (arith, is_tx c, r.1))
 
 -- who committed before it
-onward : (c : After-index-at) → get_or c.args.earlier.now c.index-at.result 0 ≡ committer (the-log c) (commit c).step
-onward c = ap (λ (t : ℕ). get_or c.args.earlier.now t 0) (is-tx c) ∙ c.loop-t.invariant.2.before (commit c).step (step_in c) (commit c).commits
+onward : (c : After-index-at) → get_or c.args.earlier.now c.index-at.result 0 ≡ committer (the_log c) (commit c).step
+onward c = ap (λ (t : ℕ). get_or c.args.earlier.now t 0) (is_tx c) ∙ c.loop-t.invariant.2.before (commit c).step (step_in c) (commit c).commits
 
 pub loop-t-init : goal.loop-t-init
 loop-t-init c = let q = c.requires in (q.0, q.1, q.2, steps c.args.log.now, omega arith, q.2.last, rw q.3 (none_coming _ 8256 _ refl refl))
 
 pub offset_bounds-writes-at : goal.offset_bounds-writes-at
-offset_bounds-writes-at c = omega (arith, (tx-in c.before.before).1)
+offset_bounds-writes-at c = omega (arith, (tx_in c.before.before).1)
 
 pub bounds-writes-at : goal.bounds-writes-at
-bounds-writes-at c = omega (arith, (tx-in c.before.before.before).1)
+bounds-writes-at c = omega (arith, (tx_in c.before.before.before).1)
 
 pub put_before-requires : goal.put_before-requires
-put_before-requires c = let t = tx-in c.before.before.before.before in (c.loop-t.invariant.6.size, t.0, t.1)
+put_before-requires c = let t = tx_in c.before.before.before.before in (c.loop-t.invariant.6.size, t.0, t.1)
 
 pub offset_bounds-earlier-at : goal.offset_bounds-earlier-at
-offset_bounds-earlier-at c = omega (arith, (tx-in c.before.before.before.before.before).1)
+offset_bounds-earlier-at c = omega (arith, (tx_in c.before.before.before.before.before).1)
 
 pub bounds-earlier-at : goal.bounds-earlier-at
-bounds-earlier-at c = omega (arith, (tx-in c.before.before.before.before.before.before).1)
+bounds-earlier-at c = omega (arith, (tx_in c.before.before.before.before.before.before).1)
 
 pub loop-t-smaller : goal.loop-t-smaller
 loop-t-smaller c =
@@ -68,7 +68,7 @@ loop-t-smaller c =
 pub loop-t-preserved : goal.loop-t-preserved
 loop-t-preserved c =
     let inv = c.loop-t.invariant in
-    (inv.0, inv.1, inv.2, (commit c.before.before.before.before.before.before.before).step, omega (arith, step_in c.before.before.before.before.before.before.before), onward c.before.before.before.before.before.before.before, coming_last _ (well c.before.before.before.before.before.before.before) inv.4 inv.6 (commit c.before.before.before.before.before.before.before) inv.1 (is-tx c.before.before.before.before.before.before.before) c.put_before.ensures)
+    (inv.0, inv.1, inv.2, (commit c.before.before.before.before.before.before.before).step, omega (arith, step_in c.before.before.before.before.before.before.before), onward c.before.before.before.before.before.before.before, coming_last _ (well c.before.before.before.before.before.before.before) inv.4 inv.6 (commit c.before.before.before.before.before.before.before) inv.1 (is_tx c.before.before.before.before.before.before.before) c.put_before.ensures)
 
 pub returns : goal.returns
 returns c =

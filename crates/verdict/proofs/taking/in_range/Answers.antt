@@ -20,43 +20,43 @@ abbrev Else-asked-x : Type 0
 Else-asked-x = Lts.Else1 tie.the-claims Reads.Pre Reads.Post
 
 abbrev In-Within-object : Type 0
-In-Within-object = Lts.After-enum_told3 tie.the-claims Reads.Pre Reads.Post
+In-Within-object = Lts.Past-After-enum_told3 tie.the-claims Reads.Pre Reads.Post
 
-tx-in : (c : goal.In-Within) → (1 upto c.args.t and c.args.t upto transactions) ≡ true
+tx_in : (c : goal.In-Within) → (1 upto c.args.t and c.args.t upto transactions) ≡ true
 unfolding make_transaction
-tx-in c = chose_first _ _ _ (sym c.of-transaction.ensures ∙ c.enum_told-1.given.1) (λ e. let z : ◌≡◌ {A = ℕ} 0 1 = cc in omega arith)
+tx_in c = chose_first _ _ _ (sym c.of-transaction.ensures ∙ c.in-Within.is) (λ e. let z : ◌≡◌ {A = ℕ} 0 1 = cc in omega arith)
 
-object-in : (c : In-Within-object) → (c.args.x below objects) ≡ true
+object_in : (c : In-Within-object) → (c.args.x below objects) ≡ true
 unfolding make_object
-object-in c = chose_first _ _ _ (sym c.of-object.ensures ∙ c.enum_told-in-Within-object-1.given.1) (λ e. let z : ◌≡◌ {A = ℕ} 0 1 = cc in omega arith)
+object_in c = chose_first _ _ _ (sym c.of-object.ensures ∙ c.in-Within-object.is) (λ e. let z : ◌≡◌ {A = ℕ} 0 1 = cc in omega arith)
 
 -- .. and the kind allows it
 allowed : (c : Else-asked-x) → let a = c.args in (a.x below objects and a.x below a.asked.objects) ≡ true
-allowed c = →and (object-in c.before.before) (→below c.if-asked-x.false)
+allowed c = →and (object_in c.before.before) (→below c.if-asked-x.false)
 
 pub returns-in_default : goal.returns-in_default
 unfolding in_range make_transaction numbered ◌at◌when◌ fails ◌is◌
-returns-in_default c = λ place. sym (first_yes 4 place _ (→fails (chose_second _ _ _ (sym c.of-transaction.ensures ∙ c.enum_told-in_default-1.given.1) (λ e. let z : ◌≡◌ {A = ℕ} 0 1 = cc in omega arith))))
+returns-in_default c = λ place. sym (first_yes 4 place _ (→fails (chose_second _ _ _ (sym c.of-transaction.ensures ∙ c.in_default.is) (λ e. let z : ◌≡◌ {A = ℕ} 0 1 = cc in omega arith))))
 
 pub returns-in_default-object : goal.returns-in_default-object
 unfolding in_range make_object numbered ◌at◌when◌ fails ◌is◌
 returns-in_default-object c =
-    λ place. sym (first_no 4 place _ (→not_fails (tx-in c.before.before.before))
-    ∙ first_yes 5 place _ (→fails (and_no_left _ (chose_second _ _ _ (sym c.of-object.ensures ∙ c.enum_told-in_default-object-1.given.1) (λ e. let z : ◌≡◌ {A = ℕ} 0 1 = cc in omega arith)))))
+    λ place. sym (first_no 4 place _ (→not_fails (tx_in c.before.before))
+    ∙ first_yes 5 place _ (→fails (and_no_left _ (chose_second _ _ _ (sym c.of-object.ensures ∙ c.in_default-object.is) (λ e. let z : ◌≡◌ {A = ℕ} 0 1 = cc in omega arith)))))
 
 pub returns-then-asked-x : goal.returns-then-asked-x
 unfolding in_range numbered ◌at◌when◌ fails ◌is◌
-returns-then-asked-x c = λ place. sym (first_no 4 place _ (→not_fails (tx-in c.before.before.before.before.before)) ∙ first_yes 5 place _ (→fails (and_no_right _ (→not_below c.if-asked-x.true))))
+returns-then-asked-x c = λ place. sym (first_no 4 place _ (→not_fails (tx_in c.before.before.before.before)) ∙ first_yes 5 place _ (→fails (and_no_right _ (→not_below c.if-asked-x.true))))
 
 pub returns-then-asked-s : goal.returns-then-asked-s
 unfolding in_range numbered ◌at◌when◌ fails ◌is◌
 returns-then-asked-s c =
-    λ place. sym (first_no 4 place _ (→not_fails (tx-in c.before.before.before.before.before.before.before)) ∙ first_no 5 place _ (→not_fails (allowed c.before.before)) ∙ when_yes 6 place (→fails (→not_upto c.if-asked-s.true)))
+    λ place. sym (first_no 4 place _ (→not_fails (tx_in c.before.before.before.before.before.before)) ∙ first_no 5 place _ (→not_fails (allowed c.before.before)) ∙ when_yes 6 place (→fails (→not_upto c.if-asked-s.true)))
 
 pub returns : goal.returns
 unfolding in_range numbered ◌at◌when◌ fails ◌is◌
 returns c =
-    λ place. sym (first_no 4 place _ (→not_fails (tx-in c.before.before.before.before.before.before.before)) ∙ first_no 5 place _ (→not_fails (allowed c.before.before)) ∙ when_no 6 place (→not_fails (→upto c.if-asked-s.false)))
+    λ place. sym (first_no 4 place _ (→not_fails (tx_in c.before.before.before.before.before.before)) ∙ first_no 5 place _ (→not_fails (allowed c.before.before)) ∙ when_no 6 place (→not_fails (→upto c.if-asked-s.false)))
 
 pub of-object-requires : goal.of-object-requires
 of-object-requires c = search rules

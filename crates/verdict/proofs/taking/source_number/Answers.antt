@@ -18,8 +18,8 @@ abbrev After-object_marked : Type 0
 After-object_marked = Lts.After-object_marked tie.the-claims Reads.Pre Reads.Post
 
 -- what the marks tell of its source
-of-source : (c : After-object_marked) {v : Bool} → c.object_marked.result ≡ v → let a = c.args in (src a.log.now a.i is 0 or wrote a.log.now a.i (src a.log.now a.i) (obj a.log.now a.i)) ≡ v
-of-source c q =
+of_source : (c : After-object_marked) {v : Bool} → c.object_marked.result ≡ v → let a = c.args in (src a.log.now a.i is 0 or wrote a.log.now a.i (src a.log.now a.i) (obj a.log.now a.i)) ≡ v
+of_source c q =
     let known = c.requires in
     let told = c.step_at-step.ensures in
     by_source _ _ known.3 known.2 known.1 told.obj_is told.src_is c.object_marked.ensures q
@@ -29,8 +29,8 @@ object_marked-requires c = let known = c.requires in omega (arith, c.step_at-ste
 
 pub returns-then-not-object_marked : goal.returns-then-not-object_marked
 unfolding numbered ◌at◌when◌ fails ◌is◌
-returns-then-not-object_marked c = sym (not_there _ _ c.requires.1 (of-source c.before.before c.if-not-object_marked.true))
+returns-then-not-object_marked c = sym (not_there _ _ c.requires.1 (of_source c.before.before c.if-not-object_marked.true))
 
 pub returns : goal.returns
 unfolding numbered ◌at◌when◌ fails ◌is◌
-returns c = sym (there _ _ c.requires.1 (of-source c.before.before c.if-not-object_marked.false))
+returns c = sym (there _ _ c.requires.1 (of_source c.before.before c.if-not-object_marked.false))

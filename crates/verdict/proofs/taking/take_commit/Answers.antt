@@ -25,11 +25,11 @@ Else-number-ne0 = Lts.Else1 tie.the-claims Reads.Pre Reads.Post
 passed : (c : Else-number-ne0) → let a = c.args in step_refusal a.log.now a.i ≡ Passed
 passed c = sym c.take_end-number.ensures.0 ∙ numbered_none _ _ c.if-number-ne0.false
 
-tx-is : (c : After-index-t) → let a = c.args in c.index-t.result ≡ tx a.log.now a.i
-tx-is c = c.index-t.ensures ∙ c.step_at-step.ensures.tx-is
+tx_is : (c : After-index-t) → let a = c.args in c.index-t.result ≡ tx a.log.now a.i
+tx_is c = c.index-t.ensures ∙ c.step_at-step.ensures.tx_is
 
 place_in : (c : After-index-t) → c.index-t.result < 129
-place_in c = omega (arith, tx-is c, (tx_within _ _ (step_within _ _ (passed c.before.before))).1)
+place_in c = omega (arith, tx_is c, (tx_within _ _ (step_within _ _ (passed c.before.before))).1)
 
 pub take_end-number-requires : goal.take_end-number-requires
 take_end-number-requires c = let known = c.requires in (known.0, inl known.2, known.3)
@@ -56,6 +56,6 @@ returns c =
       numbered_none _ _ refl ∙ sym (passed c.before.before.before.before.before.before.before.before),
       λ _. (
         c.take_end-number.ensures.1 c.if-number-ne0.false,
-        rw (tx-is c.before.before.before.before.before.before) (commit_noted _ _ (passed c.before.before.before.before.before.before.before.before) known.2 known.4 (rw (tx-is c.before.before.before.before.before.before) at c.with_vertex.ensures)),
+        rw (tx_is c.before.before.before.before.before.before) (commit_noted _ _ (passed c.before.before.before.before.before.before.before.before) known.2 known.4 (rw (tx_is c.before.before.before.before.before.before) at c.with_vertex.ensures)),
       ),
     )

@@ -35,11 +35,11 @@ number_is c = c.first_number-number.ensures ∙ no_source _ _ (λ e. ⊎_elim (�
 passed : (c : Else-number-ne0) → let a = c.args in step_refusal a.log.now a.i ≡ Passed
 passed c = sym (number_is c.before) ∙ numbered_none _ _ c.if-number-ne0.false
 
-tx-is : (c : After-index-t) → let a = c.args in c.index-t.result ≡ tx a.log.now a.i
-tx-is c = c.index-t.ensures ∙ c.step_at-step.ensures.tx-is
+tx_is : (c : After-index-t) → let a = c.args in c.index-t.result ≡ tx a.log.now a.i
+tx_is c = c.index-t.ensures ∙ c.step_at-step.ensures.tx_is
 
 place_in : (c : After-index-t) → c.index-t.result < 129
-place_in c = omega (arith, tx-is c, (tx_within _ _ (step_within _ _ (passed c.before.before))).1)
+place_in c = omega (arith, tx_is c, (tx_within _ _ (step_within _ _ (passed c.before.before))).1)
 
 pub first_number-number-requires : goal.first_number-number-requires
 unfolding steps
@@ -60,4 +60,4 @@ bounds-lives-t c = place_in c.before.before
 pub returns : goal.returns
 returns c =
     let known = c.requires in
-    (numbered_none _ _ refl ∙ sym (passed c.before.before.before.before), λ _. rw (tx-is c.before.before) (end_lives _ _ (passed c.before.before.before.before) known.1 known.2))
+    (numbered_none _ _ refl ∙ sym (passed c.before.before.before.before), λ _. rw (tx_is c.before.before) (end_lives _ _ (passed c.before.before.before.before) known.1 known.2))

@@ -16,17 +16,17 @@ abbrev Else-kind-lt4-1 : Type 0
 Else-kind-lt4-1 = Lts.Else2 tie.the-claims Reads.Pre Reads.Post
 
 abbrev In-1 : Type 0
-In-1 = Lts.At-match-keys1 tie.the-claims Reads.Pre Reads.Post
+In-1 = Lts.Past-At-match-keys1 tie.the-claims Reads.Pre Reads.Post
 
 abbrev In-2 : Type 0
-In-2 = Lts.Then2 tie.the-claims Reads.Pre Reads.Post
+In-2 = Lts.Past-Then2 tie.the-claims Reads.Pre Reads.Post
 
 -- its kind
-is-begin : (c : In-1) → let a = c.args in kind a.log.now a.i ≡ 1
-is-begin c = sym c.step_at-step.ensures.kind_is ∙ c.in-1.keys1
+is_begin : (c : In-1) → let a = c.args in kind a.log.now a.i ≡ 1
+is_begin c = sym c.step_at-step.ensures.kind_is ∙ c.in-1.is
 
-is-touch : (c : In-2) → let a = c.args in (2 ≤ kind a.log.now a.i) × (kind a.log.now a.i ≤ 3)
-is-touch c =
+is_touch : (c : In-2) → let a = c.args in (2 ≤ kind a.log.now a.i) × (kind a.log.now a.i ≤ 3)
+is_touch c =
     let is = c.step_at-step.ensures.kind_is in
     (omega (arith, is, c.if-kind-lt1.false, c.in-1.rest.1), omega (arith, is, c.if-kind-lt4.true))
 
@@ -40,25 +40,25 @@ step_at-step-requires c = omega (arith, c.requires.0)
 pub take_begin-requires : goal.take_begin-requires
 take_begin-requires c =
     let known = c.requires in
-    (known.0, known.1, is-begin c.before.before.before, known.2.has_lived, known.2.has_begun)
+    (known.0, known.1, is_begin c.before.before.before, known.2.has_lived, known.2.has_begun)
 
 pub take_touch-requires : goal.take_touch-requires
 take_touch-requires c =
     let known = c.requires in
-    (known.0, (is-touch c.before.before).0, (is-touch c.before.before).1, known.2.has_lived, known.2.has_written, known.2.writes_size)
+    (known.0, (is_touch c.before.before).0, (is_touch c.before.before).1, known.2.has_lived, known.2.has_written, known.2.writes_size)
 
 pub take_last-requires : goal.take_last-requires
 take_last-requires c =
     let known = c.requires in
-    (known.0, known.1, is_last c.before.before.before.before.before.before, omega (arith, c.step_at-step.ensures.kind_is, c.if-kind-lt6.true), known.2.has_lived, known.2.has_committed)
+    (known.0, known.1, is_last c.before, omega (arith, c.step_at-step.ensures.kind_is, c.if-kind-lt6.true), known.2.has_lived, known.2.has_committed)
 
 pub returns-in-1 : goal.returns-in-1
 returns-in-1 c =
     let ends = c.take_begin.ensures in
     record {
       says = ends.0;
-      noted = λ e. let behind = ends.1 e in behind_begin _ _ c.requires.2 (is-begin c.before.before.before.before) behind.0 behind.1;
-      told = λ _. sym (no_read_misses _ _ (λ q. omega (arith, q, is-begin c.before.before.before.before)));
+      noted = λ e. let behind = ends.1 e in behind_begin _ _ c.requires.2 (is_begin c.before.before.before.before) behind.0 behind.1;
+      told = λ _. sym (no_read_misses _ _ (λ q. omega (arith, q, is_begin c.before.before.before.before)));
     }
 
 pub returns-in-2 : goal.returns-in-2
@@ -66,7 +66,7 @@ returns-in-2 c =
     let ends = c.take_touch.ensures in
     record {
       says = ends.0;
-      noted = λ e. let behind = ends.1 e in behind_touch _ _ c.requires.2 (is-touch c.before.before.before).0 (is-touch c.before.before.before).1 behind.0 behind.1;
+      noted = λ e. let behind = ends.1 e in behind_touch _ _ c.requires.2 (is_touch c.before.before.before).0 (is_touch c.before.before.before).1 behind.0 behind.1;
       told = λ e. (ends.1 e).2;
     }
 
@@ -75,8 +75,8 @@ returns-in-4 c =
     let ends = c.take_last.ensures in
     record {
       says = ends.0;
-      noted = λ e. let behind = ends.1 e in behind_last _ _ (above-none.before.before c.before).requires.2 (is_last c.before.before.before.before.before.before.before) behind.0 behind.1;
-      told = λ _. sym (no_read_misses _ _ (λ q. omega (arith, q, is_last c.before.before.before.before.before.before.before)));
+      noted = λ e. let behind = ends.1 e in behind_last _ _ (above-none.before.before c.before).requires.2 (is_last c) behind.0 behind.1;
+      told = λ _. sym (no_read_misses _ _ (λ q. omega (arith, q, is_last c)));
     }
 
 pub returns-in_default : goal.returns-in_default

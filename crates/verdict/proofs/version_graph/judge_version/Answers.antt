@@ -27,7 +27,7 @@ abbrev After-sort-found : Type 0
 After-sort-found = Lts.After-sort tie.the-claims Reads.Pre Reads.Post
 
 abbrev In_default : Type 0
-In_default = Lts.After-enum_told tie.the-claims Reads.Pre Reads.Post
+In_default = Lts.Past-After-enum_told tie.the-claims Reads.Pre Reads.Post
 
 abbrev Start : Type 0
 Start = Lts.Start tie.the-claims Reads.Pre Reads.Post
@@ -41,7 +41,7 @@ module _ (c : After-sort-found) where
   start = known.before.before.before
 
   is_yes : cleanness start.args.log.now ≡ Yes
-  is_yes = sym start.requires.1 ∙ known.enum_told-1.given.1
+  is_yes = sym start.requires.1 ∙ known.in_default.is
 
   front : Front c.sort-found.result.list c.sort-found.result.count c.sort-found.ensures.members
   front = let s = c.sort-found.ensures in front_of s.listed (search rules) s.counted
@@ -52,7 +52,7 @@ module _ (c : After-sort-found) where
       shown_of q.2 c.draw.ensures (version_between _ (well_formed _ q.0) (cleanness_clean _ is_yes)) c.sort-found.ensures
 
 pub returns-in-Unclean : goal.returns-in-Unclean
-returns-in-Unclean c = holds_unclean (version_unclean (sym c.requires.1 ∙ c.clean-1.given.1)) c.without_members.ensures
+returns-in-Unclean c = holds_unclean (version_unclean (sym c.requires.1 ∙ c.in-Unclean.is)) c.without_members.ensures
 
 pub draw-requires : goal.draw-requires
 unfolding zeros
@@ -75,13 +75,13 @@ slice_bounds-version_cycle-end c = (front c.before.before.before.before.before).
 
 pub version_cycle-requires : goal.version_cycle-requires
 version_cycle-requires c =
-    let q = (start c).pre in
-    (q.0, cleanness_clean _ (is_yes c), q.2, q.3, (shown_cycle {on = version_on (start c).args.log.now} (shown c) c.enum_told-in-Cycle-1.given.1 (front c).same).0)
+    let q = (start c.before.before.before.before.before).requires in
+    (q.0, cleanness_clean _ (is_yes c.before.before.before.before.before), q.2, q.3, (shown_cycle {on = version_on (start c.before.before.before.before.before).args.log.now} (shown c.before.before.before.before.before) c.in-Cycle.is (front c.before.before.before.before.before).same).0)
 
 pub returns-in-Order : goal.returns-in-Order
 returns-in-Order c =
-    held _ (version (is_yes c) (shown_order (shown c) c.enum_told-in-Order-1.given.1 (front c).same)) c.an_order.ensures
+    held _ (version (is_yes c.before.before.before.before.before) (shown_order (shown c.before.before.before.before.before) c.in-Order.is (front c.before.before.before.before.before).same)) c.an_order.ensures
 
 pub returns-in-Cycle : goal.returns-in-Cycle
 returns-in-Cycle c =
-    held _ (version (is_yes c) (shown_cycle (shown c) c.enum_told-in-Cycle-1.given.1 (front c).same).1) c.version_cycle.ensures
+    held _ (version (is_yes c.before.before.before.before.before.before) (shown_cycle (shown c.before.before.before.before.before.before) c.in-Cycle.is (front c.before.before.before.before.before.before).same).1) c.version_cycle.ensures

@@ -52,46 +52,46 @@ module _ (c : After-step_at-step) where
 told : (c : After-takes_part) → c.takes_part.result ≡ committed (the_log c.before) (tx (the_log c.before) (i c.before))
 told c = told_committed c.requires.2 c.takes_part.ensures c.step_at-step.ensures.tx_is
 
-by-committed : (c : Else-not-takes_part) → committed (the_log c) (tx (the_log c) (i c)) ≡ true
-by-committed c = sym (told c.before) ∙ c.if-not-takes_part.false
+by_committed : (c : Else-not-takes_part) → committed (the_log c.before.before) (tx (the_log c.before.before) (i c.before.before)) ≡ true
+by_committed c = sym (told c.before) ∙ c.if-not-takes_part.false
 
 -- it is a read, or not
-is_read : (c : Then-step-eq-READ) → kind (the_log c) (i c) ≡ 2
+is_read : (c : Then-step-eq-READ) → kind (the_log c.before.before.before.before) (i c.before.before.before.before) ≡ 2
 is_read c = sym c.step_at-step.ensures.kind_is ∙ c.if-step-eq-READ.true
 
-no_read : (c : Else-step-eq-READ) → kind (the_log c) (i c) ≡ 2 → ⊥
+no_read : (c : Else-step-eq-READ) → kind (the_log c.before.before.before.before) (i c.before.before.before.before) ≡ 2 → ⊥
 no_read c e = c.if-step-eq-READ.false (c.step_at-step.ensures.kind_is ∙ e)
 
 pub takes_part-requires : goal.takes_part-requires
-takes_part-requires c = rw c.step_at-step.ensures.tx_is ((well c).range (i c) (inside c))
+takes_part-requires c = rw c.step_at-step.ensures.tx_is ((well c.before).range (i c.before) (inside c.before))
 
 pub returns-then-not-takes_part : goal.returns-then-not-takes_part
-returns-then-not-takes_part c = none_drawn _ _ c.requires.4 (open_step _ (i c) (sym (told c.before.before) ∙ c.if-not-takes_part.true))
+returns-then-not-takes_part c = none_drawn _ _ c.requires.4 (open_step _ (i c.before.before.before) (sym (told c.before.before) ∙ c.if-not-takes_part.true))
 
 pub join-requires : goal.join-requires
 join-requires c = c.requires.4.size
 
 pub join_next-requires : goal.join_next-requires
 join_next-requires c =
-    (c.join.ensures.size ∙ c.requires.4.size, rw c.step_at-step.ensures.src_is ((well c).sources (i c) (inside c) (is_read c.before.before.before.before)), object c)
+    (c.join.ensures.size ∙ c.requires.4.size, rw c.step_at-step.ensures.src_is ((well c.before.before.before.before.before.before.before.before).sources (i c.before.before.before.before.before.before.before.before) (inside c.before.before.before.before.before.before.before.before) (is_read c.before.before.before.before)), object c.before.before.before.before.before.before.before.before)
 
 pub returns-then-step-eq-READ : goal.returns-then-step-eq-READ
 returns-then-step-eq-READ c =
     let step = c.step_at-step.ensures in
-    read_drawn _ _ c.requires.4 (by-committed c.before.before.before.before.before.before.before) (is_read c.before.before.before.before.before) step.src_is step.tx_is
-    (next_read (well c) c.requires.3 (i c) (inside c) (is_read c.before.before.before.before.before) step.src_is step.obj_is refl) c.join.ensures c.join_next.ensures
+    read_drawn _ _ c.requires.4 (by_committed c.before.before.before.before.before.before.before) (is_read c.before.before.before.before.before) step.src_is step.tx_is
+    (next_read (well c.before.before.before.before.before.before.before.before.before) c.requires.3 (i c.before.before.before.before.before.before.before.before.before) (inside c.before.before.before.before.before.before.before.before.before) (is_read c.before.before.before.before.before) step.src_is step.obj_is refl) c.join.ensures c.join_next.ensures
 
 pub join_next-requires-then-step-eq-WRITE : goal.join_next-requires-then-step-eq-WRITE
 join_next-requires-then-step-eq-WRITE c =
-    (c.requires.4.size, rw c.step_at-step.ensures.tx_is ((well c).range (i c) (inside c)).1, object c)
+    (c.requires.4.size, rw c.step_at-step.ensures.tx_is ((well c.before.before.before.before.before.before.before.before).range (i c.before.before.before.before.before.before.before.before) (inside c.before.before.before.before.before.before.before.before)).1, object c.before.before.before.before.before.before.before.before)
 
 pub returns-then-step-eq-WRITE : goal.returns-then-step-eq-WRITE
 returns-then-step-eq-WRITE c =
     let step = c.step_at-step.ensures in
     let is_write = sym step.kind_is ∙ c.if-step-eq-WRITE.true in
-    write_drawn _ _ c.requires.4 (by-committed c.before.before.before.before.before.before.before) is_write step.tx_is
-    (next_write (well c) c.requires.3 (i c) (inside c) is_write step.tx_is step.obj_is refl) c.join_next-then-step-eq-WRITE.ensures
+    write_drawn _ _ c.requires.4 (by_committed c.before.before.before.before.before.before.before) is_write step.tx_is
+    (next_write (well c.before.before.before.before.before.before.before.before.before) c.requires.3 (i c.before.before.before.before.before.before.before.before.before) (inside c.before.before.before.before.before.before.before.before.before) is_write step.tx_is step.obj_is refl) c.join_next-then-step-eq-WRITE.ensures
 
 pub returns-else-step-eq-WRITE : goal.returns-else-step-eq-WRITE
 returns-else-step-eq-WRITE c =
-    none_drawn _ _ c.requires.4 (other_step _ (i c) (no_read c.before.before.before) (λ e. c.if-step-eq-WRITE.false (c.step_at-step.ensures.kind_is ∙ e)))
+    none_drawn _ _ c.requires.4 (other_step _ (i c.before.before.before.before.before.before.before) (no_read c.before.before.before) (λ e. c.if-step-eq-WRITE.false (c.step_at-step.ensures.kind_is ∙ e)))

@@ -67,69 +67,69 @@ module _ (c : After-step_at-step) where
 told : (c : After-takes_part) → c.takes_part.result ≡ committed (the_log c.before) (tx (the_log c.before) (i c.before))
 told c = told_committed c.requires.2 c.takes_part.ensures c.step_at-step.ensures.tx_is
 
-by-committed : (c : Else-not-takes_part) → committed (the_log c) (tx (the_log c) (i c)) ≡ true
-by-committed c = sym (told c.before) ∙ c.if-not-takes_part.false
+by_committed : (c : Else-not-takes_part) → committed (the_log c.before.before) (tx (the_log c.before.before) (i c.before.before)) ≡ true
+by_committed c = sym (told c.before) ∙ c.if-not-takes_part.false
 
 -- it is a read, or a write, or neither
-is_read : (c : Then-step-eq-READ) → kind (the_log c) (i c) ≡ 2
+is_read : (c : Then-step-eq-READ) → kind (the_log c.before.before.before.before) (i c.before.before.before.before) ≡ 2
 is_read c = sym c.step_at-step.ensures.kind_is ∙ c.if-step-eq-READ.true
 
-no_read : (c : Else-step-eq-READ) → kind (the_log c) (i c) ≡ 2 → ⊥
+no_read : (c : Else-step-eq-READ) → kind (the_log c.before.before.before.before) (i c.before.before.before.before) ≡ 2 → ⊥
 no_read c e = c.if-step-eq-READ.false (c.step_at-step.ensures.kind_is ∙ e)
 
-is-write : (c : Then-step-eq-WRITE) → kind (the_log c) (i c) ≡ 3
-is-write c = sym c.step_at-step.ensures.kind_is ∙ c.if-step-eq-WRITE.true
+is_write : (c : Then-step-eq-WRITE) → kind (the_log c.before.before.before.before.before.before) (i c.before.before.before.before.before.before) ≡ 3
+is_write c = sym c.step_at-step.ensures.kind_is ∙ c.if-step-eq-WRITE.true
 
 -- the source of a read, and the writers of the next versions
 source : (c : Then-step-eq-READ) → c.step_at-step.result.src ≤ transactions
-source c = rw c.step_at-step.ensures.src_is ((well c).sources (i c) (inside c) (is_read c))
+source c = rw c.step_at-step.ensures.src_is ((well c.before.before.before.before).sources (i c.before.before.before.before) (inside c.before.before.before.before) (is_read c))
 
-read_next : (c : After-next_of-then) → c.next_of-then.result ≡ next_writer (the_log c) (obj (the_log c) (i c)) (src (the_log c) (i c))
+read_next : (c : After-next_of-then) → c.next_of-then.result ≡ next_writer (the_log c.before.before.before.before.before) (obj (the_log c.before.before.before.before.before) (i c.before.before.before.before.before)) (src (the_log c.before.before.before.before.before) (i c.before.before.before.before.before))
 read_next c =
     let step = c.step_at-step.ensures in
-    c.next_of-then.ensures ∙ next_read (well c) c.requires.3 (i c) (inside c) (is_read c.before) step.src_is step.obj_is refl
+    c.next_of-then.ensures ∙ next_read (well c.before.before.before.before.before) c.requires.3 (i c.before.before.before.before.before) (inside c.before.before.before.before.before) (is_read c.before) step.src_is step.obj_is refl
 
-write-next : (c : After-next_of-then-then-step-eq-WRITE) → c.next_of-then-then-step-eq-WRITE.result ≡ next_writer (the_log c) (obj (the_log c) (i c)) (tx (the_log c) (i c))
-write-next c =
+write_next : (c : After-next_of-then-then-step-eq-WRITE) → c.next_of-then-then-step-eq-WRITE.result ≡ next_writer (the_log c.before.before.before.before.before.before.before) (obj (the_log c.before.before.before.before.before.before.before) (i c.before.before.before.before.before.before.before)) (tx (the_log c.before.before.before.before.before.before.before) (i c.before.before.before.before.before.before.before))
+write_next c =
     let step = c.step_at-step.ensures in
-    c.next_of-then-then-step-eq-WRITE.ensures ∙ next_write (well c) c.requires.3 (i c) (inside c) (is-write c.before) step.tx_is step.obj_is refl
+    c.next_of-then-then-step-eq-WRITE.ensures ∙ next_write (well c.before.before.before.before.before.before.before) c.requires.3 (i c.before.before.before.before.before.before.before) (inside c.before.before.before.before.before.before.before) (is_write c.before) step.tx_is step.obj_is refl
 
 pub takes_part-requires : goal.takes_part-requires
-takes_part-requires c = rw c.step_at-step.ensures.tx_is ((well c).range (i c) (inside c))
+takes_part-requires c = rw c.step_at-step.ensures.tx_is ((well c.before).range (i c.before) (inside c.before))
 
 pub returns-then-not-takes_part : goal.returns-then-not-takes_part
-returns-then-not-takes_part c ring stands best = none_offered _ (i c) best (open_reasons _ (i c) (sym (told c.before.before) ∙ c.if-not-takes_part.true))
+returns-then-not-takes_part c ring stands best = none_offered _ (i c.before.before.before) best (open_reasons _ (i c.before.before.before) (sym (told c.before.before) ∙ c.if-not-takes_part.true))
 
 pub next_of-then-requires : goal.next_of-then-requires
-next_of-then-requires c = (source c.before, object c.before.before.before.before)
+next_of-then-requires c = (source c.before, object c.before.before.before.before.before)
 
 pub offer_edge-requires : goal.offer_edge-requires
 offer_edge-requires c =
-    (c.requires.4, source c.before.before.before, low c, object c, omega arith)
+    (c.requires.4, source c.before.before.before, low c.before.before.before.before.before.before.before, object c.before.before.before.before.before.before.before, omega arith)
 
 pub offer_edge-requires-then-step-eq-READ : goal.offer_edge-requires-then-step-eq-READ
 offer_edge-requires-then-step-eq-READ c =
-    (c.offer_edge.ensures.0, low c, rw (read_next c.before.before.before.before) (next_range _ (well c) _ _), object c, omega arith)
+    (c.offer_edge.ensures.0, low c.before.before.before.before.before.before.before.before.before, rw (read_next c.before.before.before.before) (next_range _ (well c.before.before.before.before.before.before.before.before.before) _ _), object c.before.before.before.before.before.before.before.before.before, omega arith)
 
 pub returns-then-step-eq-READ : goal.returns-then-step-eq-READ
 returns-then-step-eq-READ c ring stands best =
     let step = c.step_at-step.ensures in
-    read_offered _ (i c) (by-committed c.before.before.before.before.before.before.before.before) (is_read c.before.before.before.before.before.before) step.src_is step.tx_is step.obj_is (read_next c.before.before.before.before.before)
+    read_offered _ (i c.before.before.before.before.before.before.before.before.before.before) (by_committed c.before.before.before.before.before.before.before.before) (is_read c.before.before.before.before.before.before) step.src_is step.tx_is step.obj_is (read_next c.before.before.before.before.before)
     (c.offer_edge-then-step-eq-READ.ensures.1 ring _ stands (c.offer_edge.ensures.1 ring _ stands best))
 
 pub next_of-then-requires-then-step-eq-WRITE : goal.next_of-then-requires-then-step-eq-WRITE
-next_of-then-requires-then-step-eq-WRITE c = (low c, object c)
+next_of-then-requires-then-step-eq-WRITE c = (low c.before.before.before.before.before.before.before, object c.before.before.before.before.before.before.before)
 
 pub offer_edge-requires-then-step-eq-WRITE : goal.offer_edge-requires-then-step-eq-WRITE
 offer_edge-requires-then-step-eq-WRITE c =
-    (c.requires.4, low c, rw (write-next c.before.before) (next_range _ (well c) _ _), object c, omega arith)
+    (c.requires.4, low c.before.before.before.before.before.before.before.before.before, rw (write_next c.before.before) (next_range _ (well c.before.before.before.before.before.before.before.before.before) _ _), object c.before.before.before.before.before.before.before.before.before, omega arith)
 
 pub returns-then-step-eq-WRITE : goal.returns-then-step-eq-WRITE
 returns-then-step-eq-WRITE c ring stands best =
     let step = c.step_at-step.ensures in
-    write_offered _ (i c) (by-committed c.before.before.before.before.before.before.before.before) (is-write c.before.before.before.before) step.tx_is step.obj_is (write-next c.before.before.before)
+    write_offered _ (i c.before.before.before.before.before.before.before.before.before.before) (by_committed c.before.before.before.before.before.before.before.before) (is_write c.before.before.before.before) step.tx_is step.obj_is (write_next c.before.before.before)
     (c.offer_edge-then-step-eq-WRITE.ensures.1 ring _ stands best)
 
 pub returns-else-step-eq-WRITE : goal.returns-else-step-eq-WRITE
 returns-else-step-eq-WRITE c ring stands best =
-    none_offered _ (i c) best (other_reasons _ (i c) (no_read c.before.before.before) (λ e. c.if-step-eq-WRITE.false (c.step_at-step.ensures.kind_is ∙ e)))
+    none_offered _ (i c.before.before.before.before.before.before.before) best (other_reasons _ (i c.before.before.before.before.before.before.before) (no_read c.before.before.before) (λ e. c.if-step-eq-WRITE.false (c.step_at-step.ensures.kind_is ∙ e)))
