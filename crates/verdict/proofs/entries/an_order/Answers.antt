@@ -6,18 +6,15 @@ use native.Mathlib.Omega.{arith}
 use lib.ListN.{length, get_or}
 use borrow.Author.Rules.{rules}
 use Rattle.words.specs.Lists.{zeros, entries}
-use Rattle.verdict.specs.Reason.{Entry, without_reasons}
+use Rattle.verdict.specs.Reason.{without_reasons}
 use Rattle.verdict.specs.Outcome.{said, members}
 use Rattle.verdict.specs.Witness.{in_threes, witness}
 use Rattle.verdict.specs.declared.answers.Answer.{Answer}
 use Rattle.verdict.specs.declared.answers.Answer.TheVariants.{Order}
 use Rattle.verdict.specs.Inner.Reasons.{entry_put}
 use Rattle.verdict.proofs.Threes.{put_length, member_more, all_entries}
+use Rattle.verdict.proofs.entries.an_order.Invariants.{alone}
 use Rattle.verdict.proofs.entries.an_order.Goals as goal
-
--- a member alone
-abbrev alone : ℕ → Entry
-alone t = record { transaction = t; kind = 0; object = 0 }
 
 pub loop-i-init : goal.loop-i-init
 unfolding entries zeros in_threes
