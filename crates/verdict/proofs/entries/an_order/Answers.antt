@@ -1,7 +1,7 @@
 -- `an_order` meets its contract.
 use mathlib.Core.Path.{◌≡◌, refl, ap, ap₂, ◌∙◌}
 use mathlib.Core.List.{List}
-use Prim.Native.Nat.{ℕ, ◌-◌}
+use Prim.Native.Nat.{ℕ}
 use native.Mathlib.Omega.{arith}
 use lib.ListN.{length, get_or}
 use borrow.Author.Rules.{rules}
@@ -39,8 +39,14 @@ pub loop-i-preserved : goal.loop-i-preserved
 loop-i-preserved c =
     let inv = c.loop-i.invariant in
     let given : List ℕ = c.args.members.now in
-    let t : ℕ = get_or given c.loop-i.i 0 in
-    (omega arith, inv.1, ap length c.put_entry.ensures ∙ put_length c.loop-i.list c.loop-i.i t 0 0 ∙ inv.2, c.put_entry.ensures ∙ ap (λ (l : List ℕ). entry_put l c.loop-i.i t 0 0) inv.3 ∙ member_more alone given c.loop-i.i (omega arith) inv.1 (alone t) refl)
+    let t : ℕ = get_or given c.loop-i.i 0 in (
+      omega arith,
+      inv.1,
+      ap length c.put_entry.ensures ∙ put_length c.loop-i.list c.loop-i.i t 0 0 ∙ inv.2,
+      c.put_entry.ensures
+      ∙ ap (λ (l : List ℕ). entry_put l c.loop-i.i t 0 0) inv.3
+      ∙ member_more alone given c.loop-i.i (omega arith) inv.1 (alone t) refl,
+    )
 
 pub returns : goal.returns
 unfolding said members without_reasons witness

@@ -4,7 +4,7 @@ use Prim.Native.Nat.{suc, ◌/◌}
 use native.Mathlib.Omega.{arith}
 use native.Mathlib.Numerals.{add-one}
 use lib.ListN.{length}
-use Rattle.words.specs.Tests.{◌is◌, count}
+use Rattle.words.specs.Tests.{count}
 use Rattle.words.proofs.Truth.{→is, →isnt, count_yes, count_no}
 use Rattle.verdict.specs.Log.{steps, committed_count}
 use Rattle.verdict.proofs.walk.committed_count.Goals as goal
