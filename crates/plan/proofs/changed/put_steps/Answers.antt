@@ -35,7 +35,7 @@ loop-i-preserved c = let log = c.args.log.now in
     let e : 4 * (i + 1) ≡ 4 * i + 4 = omega arith in (
       omega arith,
       c.put_step.ensures.0,
-      ap (λ (n : ℕ). take n c.put_step.new.1.1.1.0) e ∙ c.put_step.ensures.1
+      ap (λ (n : ℕ). take n c.put_step.new.changed) e ∙ c.put_step.ensures.1
           ∙ ap (λ (l : List ℕ). l ++ kind_after back log i ∷ tx log i ∷ obj log i ∷ src log i ∷ []) c.loop-i.invariant.2 ∙ sym (after_more back log i),
     )
 

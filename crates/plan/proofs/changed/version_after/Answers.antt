@@ -21,11 +21,11 @@ abbrev After-put_steps : Type 0
 After-put_steps = Lts.After-put_steps tie.the-claims Reads.Pre Reads.Post
 
 -- and it is well_formed
-well : (c : After-put_steps) → log_refusal (take (length c.args.log.now) c.put_steps.new.1.1.0) ≡ Passed
+well : (c : After-put_steps) → log_refusal (take (length c.args.log.now) c.put_steps.new.changed) ≡ Passed
 well c = ap log_refusal c.put_steps.ensures.1 ∙ well_changed (changed _ _) c.requires.1
 
 -- the log has room in the changed one
-within : (c : After-put_steps) → length c.args.log.now ≤ length c.put_steps.new.1.1.0
+within : (c : After-put_steps) → length c.args.log.now ≤ length c.put_steps.new.changed
 within c = omega (arith, whole_steps _ c.requires.1, steps_within _ c.requires.1, c.put_steps.ensures.0)
 
 pub slice_bounds-changed-end : goal.slice_bounds-changed-end

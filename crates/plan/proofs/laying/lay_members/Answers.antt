@@ -18,7 +18,7 @@ pub loop-t-smaller : goal.loop-t-smaller
 loop-t-smaller c = omega arith
 
 pub loop-t-preserved : goal.loop-t-preserved
-loop-t-preserved c = (omega arith, c.lay_member-count.auto.0 ∙ c.loop-t.invariant.1, c.lay_member-count.ensures)
+loop-t-preserved c = (omega arith, c.lay_member-count.auto.proposal ∙ c.loop-t.invariant.1, c.lay_member-count.ensures)
 
 pub shape_of-proposal : goal.shape_of-proposal
 shape_of-proposal c = c.loop-t.invariant.1
