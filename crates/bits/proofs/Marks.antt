@@ -12,7 +12,7 @@ use lib.Dec.{eqb}
 use lib.Bits.{bit_and, bit_or, and_step, or_step, and_shr, or_shr, and_mask, and_le_l, or_lt, or_disjoint, shifted_half, shifted_even}
 use lib.Count.{count_trailing_zeros, under, trailing_le}
 use Rattle.words.specs.Tests.{◌is◌, ◌below◌, ◌upto◌, ◌and◌, ◌or◌, fails, if◌then◌else◌, some, lowest}
-use Rattle.words.proofs.Truth.{decide, not_both, to_true, to_false, or→, →or_left, →or_right, and_no_right, same_test, below→, not_below→, →not_below, upto→, →upto, fails→, and→, →and, if_true, if_false, and_no_left, not_fails, some_same, is→, isnt→, →is, →isnt, →fails, →not_fails, →none, none→, lowest_at, lowest_none}
+use Rattle.words.proofs.Truth.{decide, not_both, to_true, to_false, or→, →or_left, →or_right, and_no_right, same_test, below→, not_below→, →not_below, upto→, →upto, fails→, and→, →and, if_true, if_false, and_no_left, not_fails, is→, isnt→, →is, →isnt, →fails, →not_fails, →none, none→, lowest_at, lowest_none}
 use Rattle.bits.specs.Word.{marked, more, less}
 
 -- the lowest bit, and the others

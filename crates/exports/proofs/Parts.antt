@@ -1,10 +1,10 @@
 -- The parts that the header's macros take of a C call's number: they are the numbers of an answer that the call allows, and these tell the answer.
 use mathlib.Core.Path.{◌≡◌, refl, sym, ap, ◌∙◌}
 use mathlib.Core.List.{List}
-use Prim.Native.Nat.{ℕ, suc, ◌/◌, ◌%◌, ◌≤◌}
+use Prim.Native.Nat.{ℕ, suc, ◌/◌, ◌%◌}
 use native.Mathlib.Omega.{arith}
 use Rattle.words.specs.Tests.{◌is◌, if◌then◌else◌}
-use Rattle.words.proofs.Truth.{if_true, if_false, →is, →isnt}
+use Rattle.words.proofs.Truth.{if_false, →isnt}
 use Rattle.verdict.specs.Limits.{transactions, most_steps}
 use Rattle.verdict.specs.Snapshot.{snapshot_verdict}
 use Rattle.verdict.specs.Call.{turned_away, answered, CleanCall, SnapshotCall, ConflictCall, VersionCall, ExactCall, NextCall}

@@ -3,7 +3,7 @@ use mathlib.Core.Path.{◌≡◌, refl, sym, ap, subst, ◌∙◌}
 use mathlib.Core.Bool.{Bool, true, false}
 use mathlib.Core.Logic.{◌⊎◌, inl, inr}
 use mathlib.Core.List.{List, [], ◌∷◌}
-use Prim.Native.Nat.{ℕ, suc, ◌+◌, ◌-◌, ◌*◌, ◌/◌, ◌%◌, ◌^◌, ◌≤◌, ◌<◌}
+use Prim.Native.Nat.{ℕ, ◌+◌, ◌-◌, ◌*◌, ◌/◌, ◌%◌, ◌^◌, ◌≤◌, ◌<◌}
 use native.Mathlib.Omega.{arith}
 use lib.ListN.{length, get_or, set, length-set, replicate}
 use lib.Seq.{get_or-set_same, get_or-set_other, ext_get_or}
@@ -15,7 +15,7 @@ use Rattle.bits.proofs.Marks.{same_marks}
 use Rattle.bits.proofs.Runs.{bit_at, bit_less, no_bit}
 use Rattle.graph.specs.Matrix.{takes_part, in_row, Joins, Drops}
 use Rattle.graph.specs.Inner.Rows.{PutRow}
-use Rattle.graph.proofs.TwoWords.{no_vertex, by_bit, word_by_word, two_words}
+use Rattle.graph.proofs.TwoWords.{by_bit, word_by_word, two_words}
 
 -- no row, and no vertex in a row
 pub no_row : (m : List ℕ) (b : ℕ) → (1 ≤ b → b ≤ 128 → ⊥) → (a : ℕ) → in_row m b a ≡ false

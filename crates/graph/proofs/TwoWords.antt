@@ -3,17 +3,16 @@ use mathlib.Core.Path.{◌≡◌, refl, sym, ap, ap₂, ◌∙◌}
 use mathlib.Core.Bool.{Bool, true, false}
 use mathlib.Core.Logic.{◌⊎◌, inl, inr, ⊎_elim}
 use mathlib.Core.List.{List, [], ◌∷◌}
-use Prim.Native.Nat.{ℕ, suc, ◌+◌, ◌-◌, ◌*◌, ◌/◌, ◌%◌, ◌≤◌, ◌<◌}
+use Prim.Native.Nat.{ℕ, ◌+◌, ◌-◌, ◌*◌, ◌/◌, ◌%◌, ◌≤◌, ◌<◌}
 use native.Mathlib.Omega.{arith}
 use lib.ListN.{length, get_or, set, replicate}
-use lib.Seq.{get_or-set_same, get_or-set_other}
-use Rattle.words.specs.Tests.{◌is◌, ◌below◌, ◌upto◌, ◌and◌, ◌or◌, fails, if◌then◌else◌, some, lowest}
-use Rattle.words.proofs.Truth.{decide, not_both, to_true, to_false, same_test, and→, →and, and_true, and_no_left, and_true_right, or→, →or_left, →or_right, or_false, is→, →is, isnt→, →isnt, below→, →below, upto→, →upto, not_upto→, →not_upto, if_true, if_false, some→, →some, →none, none→, lowest_is, lowest_at, lowest_none, below_lowest}
+use Rattle.words.specs.Tests.{◌is◌, ◌below◌, ◌upto◌, ◌and◌, ◌or◌, if◌then◌else◌, some, lowest}
+use Rattle.words.proofs.Truth.{decide, not_both, to_false, same_test, and→, →and, and_true, and_no_left, and_true_right, or_false, is→, →is, →isnt, below→, →below, upto→, →upto, not_upto→, if_true, some→, →some, none→, lowest_is, lowest_at, lowest_none, below_lowest}
 use Rattle.bits.specs.Word.{marked, more}
 use Rattle.bits.specs.Run.{bit}
 use Rattle.bits.proofs.Marks.{no_mark}
 use Rattle.bits.proofs.Runs.{bit_at, bit_more, no_bit}
-use Rattle.graph.specs.Matrix.{takes_part, in_row}
+use Rattle.graph.specs.Matrix.{takes_part}
 
 -- a number that is no vertex, or one with its mark in the first word, or in the second
 data Place (v : ℕ) : Type 0 where

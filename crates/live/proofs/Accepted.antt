@@ -6,7 +6,7 @@ use mathlib.Core.List.{List, []}
 use Prim.Native.Nat.{ℕ, suc, ◌≤◌, ◌<◌}
 use native.Mathlib.Omega.{arith}
 use native.Mathlib.Nat.{not-suc-le-zero}
-use Rattle.words.specs.Tests.{◌is◌, ◌below◌, ◌upto◌, ◌and◌, ◌or◌, if◌then◌else◌, some}
+use Rattle.words.specs.Tests.{◌is◌, ◌below◌, ◌upto◌, ◌or◌, if◌then◌else◌, some}
 use Rattle.words.proofs.Truth.{decide, not_both, to_false, and→, →and, or→, →or_left, →or_right, fails→, not_fails→, is→, →is, isnt→, below→, not_below→, upto→, →upto, not_upto→, if_true, some→, →some, none→, lowest_is, lowest_at}
 use Rattle.verdict.specs.Limits.{objects}
 use Rattle.verdict.specs.Log.{steps, kind, tx, obj, begins, writes, commits, committed, writer, begin_step, commit_step}

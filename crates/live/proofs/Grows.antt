@@ -7,13 +7,12 @@ use Prim.Native.Nat.{ℕ, zero, suc, ◌+◌, ◌*◌, ◌≤◌, ◌<◌}
 use native.Mathlib.Omega.{arith}
 use lib.ListN.{length, get_or, length-append, get_or-append}
 use lib.Seq.{get_or-append-add}
-use Rattle.words.specs.Tests.{◌is◌, ◌below◌, ◌and◌, ◌or◌, if◌then◌else◌, some, lowest}
+use Rattle.words.specs.Tests.{◌is◌, ◌and◌, ◌or◌, if◌then◌else◌, some, lowest}
 use Rattle.words.proofs.Truth.{decide, not_both, →and, and_no_left, and_no_right, or_no, →is, →isnt, some→, →some, none→, some_same, lowest_is, lowest_at, lowest_le}
 use Rattle.verdict.specs.Log.{steps, kind, tx, obj, src, begins, reads, writes, commits, aborts, committed, writer, begin_step, commit_step, commits_writer}
 use Rattle.verdict.specs.Log.{begun, ended, wrote}
 use Rattle.verdict.specs.Clean.{after_own_write}
 use Rattle.verdict.specs.Snapshot.{writer_number, snapshot_step, last_committed, wanted}
-use Rattle.verdict.specs.declared.answers.Writer.{Writer}
 use Rattle.verdict.specs.declared.answers.Writer.TheVariants.{Reader}
 use Rattle.verdict.proofs.SnapshotLaws.{last_none, last_here, last_before}
 use Rattle.live.specs.SoFar.{more}

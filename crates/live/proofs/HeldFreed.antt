@@ -6,7 +6,7 @@ use mathlib.Core.List.{List}
 use Prim.Native.Nat.{ℕ, ◌+◌, ◌*◌, ◌≤◌, ◌<◌}
 use native.Mathlib.Omega.{arith}
 use lib.ListN.{length, set, length-set}
-use Rattle.words.specs.Tests.{◌is◌, ◌upto◌, if◌then◌else◌}
+use Rattle.words.specs.Tests.{◌upto◌, if◌then◌else◌}
 use Rattle.words.proofs.Truth.{not_both, if_false}
 use Rattle.graph.specs.Matrix.{in_row}
 use Rattle.verdict.specs.Limits.{objects}

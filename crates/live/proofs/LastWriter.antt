@@ -6,7 +6,7 @@ use mathlib.Core.List.{List}
 use Prim.Native.Nat.{ℕ, zero, suc, ◌≤◌, ◌<◌}
 use native.Mathlib.Omega.{arith}
 use native.Mathlib.Nat.{not-suc-le-zero}
-use Rattle.words.specs.Tests.{◌is◌, ◌below◌, ◌and◌, ◌or◌, fails}
+use Rattle.words.specs.Tests.{◌is◌, ◌and◌, fails}
 use Rattle.words.proofs.Truth.{decide, not_both, same_test, and→, →and, or→, →or_left, →or_right, fails→, →fails, is→, →is, isnt→, →isnt, if_true, if_false, some→, →some}
 use Rattle.verdict.specs.Log.{steps, kind, tx, obj, src, reads, commits, committed, writer, begin_step, commit_step, commits_writer}
 use Rattle.verdict.specs.Log.{begun, wrote}

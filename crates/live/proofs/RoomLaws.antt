@@ -5,7 +5,7 @@ use mathlib.Core.Logic.{◌⊎◌, inl, inr, ⊎_elim}
 use mathlib.Core.List.{List}
 use Prim.Native.Nat.{ℕ, suc, ◌≤◌, ◌<◌}
 use native.Mathlib.Omega.{arith}
-use Rattle.words.specs.Tests.{◌is◌, ◌below◌, ◌upto◌, ◌and◌, ◌or◌, fails}
+use Rattle.words.specs.Tests.{◌is◌, ◌below◌, ◌upto◌, ◌and◌, fails}
 use Rattle.words.proofs.Truth.{decide, not_both, to_false, same_test, and→, →and, and_true_right, and_no_left, or→, →or_right, fails→, →fails, is→, →is, isnt→, →isnt, below→, →below, upto→, →upto, if_false, some→, →some}
 use Rattle.graph.specs.Matrix.{in_row}
 use Rattle.graph.specs.Reach.{Way, stay, onward, row_edge}

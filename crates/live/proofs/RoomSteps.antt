@@ -6,7 +6,7 @@ use mathlib.Core.List.{List}
 use Prim.Native.Nat.{ℕ, suc, ◌+◌, ◌-◌, ◌≤◌, ◌<◌}
 use native.Mathlib.Omega.{arith}
 use lib.ListN.{length, get_or, set, length-set}
-use Rattle.words.specs.Tests.{◌is◌, ◌below◌, ◌upto◌, ◌and◌, ◌or◌, fails, if◌then◌else◌, some}
+use Rattle.words.specs.Tests.{◌is◌, ◌below◌, ◌upto◌, ◌and◌, fails, if◌then◌else◌, some}
 use Rattle.words.proofs.Truth.{decide, not_both, to_false, same_test, and→, →and, and_no_left, and_no_right, fails→, →fails, →not_fails, is→, →is, isnt→, →isnt, below→, →below, not_below→, upto→, →upto, →not_upto, if_true, if_false, some_same}
 use Rattle.graph.specs.Matrix.{takes_part, in_row, Drops}
 use Rattle.graph.proofs.RowLaws.{no_row}

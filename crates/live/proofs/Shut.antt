@@ -6,7 +6,7 @@ use mathlib.Core.List.{List}
 use Prim.Native.Nat.{ℕ, zero, suc, ◌≤◌, ◌<◌}
 use native.Mathlib.Omega.{arith}
 use native.Mathlib.Nat.{not-suc-le-zero}
-use Rattle.words.specs.Tests.{◌is◌, ◌upto◌, ◌and◌, if◌then◌else◌}
+use Rattle.words.specs.Tests.{◌is◌, ◌upto◌, if◌then◌else◌}
 use Rattle.words.proofs.Truth.{decide, to_false, and→, is→, isnt→, upto→, not_upto→, if_true, if_false, some→}
 use Rattle.verdict.specs.Log.{steps, tx, begins, begun}
 use Rattle.verdict.specs.Version.{version_edge}

@@ -10,7 +10,7 @@ use Rattle.words.specs.Tests.{if◌then◌else◌, lowest}
 use Rattle.verdict.specs.Limits.{transactions, work_bytes, witness_buffer}
 use Rattle.verdict.specs.Log.{steps, aborted, src}
 use Rattle.verdict.specs.Clean.{fault_step, after_own_write, faulty_read, is_clean, fault_at, cleanness}
-use Rattle.verdict.specs.Outcome.{Outcome, order, said, shows_order, shows_cycle}
+use Rattle.verdict.specs.Outcome.{Outcome, said, shows_order, shows_cycle}
 use Rattle.verdict.specs.Version.{Version, version, version_unclean}
 use Rattle.verdict.specs.Call.{VersionCall, turned_away, answered, said_judged}
 use Rattle.verdict.specs.Refusal.{log_refusal}

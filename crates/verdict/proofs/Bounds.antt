@@ -5,7 +5,7 @@ use mathlib.Core.List.{List, [], ◌∷◌}
 use Prim.Native.Nat.{ℕ, zero, suc, ◌≤◌, ◌<◌}
 use native.Mathlib.Omega.{arith}
 use lib.ListN.{length}
-use Rattle.words.specs.Tests.{◌below◌, if◌then◌else◌, some, count, lowest, highest}
+use Rattle.words.specs.Tests.{◌below◌, if◌then◌else◌, some, count, lowest}
 use Rattle.words.specs.Lists.{member, all}
 use Rattle.words.specs.First.{later}
 use Rattle.graph.specs.Order.{once_each, is_order}

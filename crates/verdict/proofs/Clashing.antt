@@ -6,7 +6,7 @@ use mathlib.Core.List.{List}
 use Prim.Native.Nat.{ℕ, ◌+◌, ◌≤◌, ◌<◌}
 use native.Mathlib.Omega.{arith}
 use lib.ListN.{get_or, replicate, get_or-replicate, length-replicate}
-use Rattle.words.specs.Tests.{◌below◌, ◌and◌, if◌then◌else◌, some, lowest}
+use Rattle.words.specs.Tests.{◌below◌, ◌and◌, some, lowest}
 use Rattle.words.proofs.Truth.{decide, not_both, to_false, same_test, and→, →and, and_true, and_no_left, and_no_right, is→, →is, →isnt, →below, →not_below, below→, if_true, if_false, some→, →some, →none, some_skip, lowest_le, lowest_passes}
 use Rattle.bits.specs.Table.{Puts}
 use Rattle.bits.specs.Word.{marked}

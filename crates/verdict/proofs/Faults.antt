@@ -1,5 +1,5 @@
 -- The clean verdict at a step and of a log, from the answers to the questions that decide it.
-use mathlib.Core.Path.{◌≡◌, refl, sym, ap, ◌∙◌}
+use mathlib.Core.Path.{◌≡◌, refl, ap, ◌∙◌}
 use mathlib.Core.Bool.{Bool, true, false}
 use mathlib.Core.List.{List}
 use Prim.Native.Nat.{ℕ, ◌≤◌, ◌<◌}
@@ -10,7 +10,7 @@ use Rattle.words.proofs.Either.{lowest_either}
 use Rattle.verdict.specs.Log.{steps, obj, src, committed, aborted}
 use Rattle.verdict.specs.declared.answers.Fault.TheVariants.{Own, Aborted, Unfinal}
 use Rattle.verdict.specs.declared.answers.Cleanness.TheVariants.{Yes, Unclean}
-use Rattle.verdict.specs.Clean.{judged_other, after_own_write, writes_later, final_source, own_fault, source_fault, faulty_read, is_clean, fault_at, cleanness}
+use Rattle.verdict.specs.Clean.{judged_other, writes_later, final_source, own_fault, source_fault, faulty_read, is_clean, fault_at, cleanness}
 
 module _ (log : List ℕ) (i : ℕ) where
   pub not_faulty : judged_other log i ≡ false → source_fault log i ≡ false

@@ -3,7 +3,7 @@ use mathlib.Core.Path.{◌≡◌, refl}
 use mathlib.Core.Bool.{true, false}
 use mathlib.Core.List.{List, [], ◌∷◌}
 use Prim.Native.Nat.{ℕ}
-use Rattle.words.specs.Tests.{◌is◌, ◌below◌, ◌upto◌, ◌and◌, ◌or◌, ◌implies◌, fails, if◌then◌else◌, some, every, count, lowest, highest}
+use Rattle.words.specs.Tests.{◌is◌, ◌below◌, ◌upto◌, ◌and◌, ◌or◌, ◌implies◌, fails, if◌then◌else◌, some, every, lowest, highest}
 use Rattle.words.specs.Lists.{member, all, distinct}
 use Rattle.graph.specs.Cycle.{leads, is_cycle}
 use Rattle.verdict.specs.Limits.{transactions}

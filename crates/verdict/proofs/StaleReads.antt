@@ -5,7 +5,7 @@ use mathlib.Core.Logic.{◌⊎◌, inl, inr}
 use mathlib.Core.List.{List}
 use Prim.Native.Nat.{ℕ, suc, ◌≤◌, ◌<◌}
 use native.Mathlib.Omega.{arith}
-use Rattle.words.specs.Tests.{◌is◌, ◌below◌, ◌upto◌, ◌or◌, some, highest}
+use Rattle.words.specs.Tests.{◌below◌, ◌upto◌, some, highest}
 use Rattle.words.proofs.Truth.{decide, not_both, to_false, and→, →and, and_no_left, and_no_right, →fails, →not_fails, is→, →is, →isnt, upto→, →upto, not_upto→, →below, below→, not_below→, →not_below, if_true, if_false, →some, →none, lowest_is, lowest_none, lowest_passes, lowest_bound, lowest_some, below_lowest, highest_is, highest_none, highest_at}
 use Rattle.verdict.specs.Log.{steps, tx, obj, src, commits, committed, writer, commit_step, commits_writer}
 use Rattle.verdict.specs.Clean.{judged_other}

@@ -1,5 +1,5 @@
 -- Rows of marks, and how one is put among them. Private contracts cite these.
-use Rattle.std.specs.Prelude.{◌≡◌, Bool, List, ℕ, length}
+use Rattle.std.specs.Prelude.{◌≡◌, List, ℕ, length}
 use Rattle.words.specs.Tests.{◌is◌, if◌then◌else◌}
 use Rattle.graph.specs.Matrix.{vertices, takes_part, in_row}
 

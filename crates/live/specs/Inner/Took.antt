@@ -5,7 +5,7 @@ use Rattle.bits.specs.Word.{marked}
 use Rattle.verdict.specs.Limits.{objects}
 use Rattle.verdict.specs.Refusal.{object_allowed}
 use Rattle.live.specs.Answers.{stands, answer_number}
-use Rattle.live.specs.SoFar.{numbers, more}
+use Rattle.live.specs.SoFar.{numbers}
 use Rattle.live.specs.Says.{State, going, says, after}
 use Rattle.live.specs.Kept.{places, full}
 use Rattle.live.specs.declared.step.Live.{Live}

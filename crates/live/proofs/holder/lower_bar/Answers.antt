@@ -1,7 +1,6 @@
 -- `lower_bar` meets its contract.
 use mathlib.Core.Path.{sym}
 use Rattle.words.proofs.Truth.{→below, →not_below, if_true, if_false}
-use Rattle.words.specs.Tests.{◌below◌}
 use Rattle.live.specs.Inner.Forgetting.{lowered}
 use Rattle.live.proofs.holder.lower_bar.Goals as goal
 
