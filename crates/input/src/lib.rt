@@ -36,11 +36,16 @@ pub fn arg_count(rt: &impl Env) -> usize {
     count
 }
 
-// Says on standard error what could not be read, and why. Nothing can be said where that fails, too.
+// Says a line on standard error. Where that fails, nothing can be said.
+pub fn say(rt: &impl Eprint, line: impl fmt::Display + Drop) {
+    let _ = rt.eprintln(line);
+}
+
+// Says on standard error what could not be read, and why.
 fn fail(rt: &impl Eprint, what: impl fmt::Display + Drop, why: impl fmt::Display + Drop) -> Got
     ensures { result.bytes ≡ 0 }
 {
-    let _ = eprintln!(rt; "{what}: {why}");
+    say(rt, format_args!("{what}: {why}"));
     Got {
         bytes: 0,
         failed: true,

@@ -1,10 +1,12 @@
 // Lines that programs print, each with one write where it is no longer than most are.
 #![tactic(auto)]
 
-ghost use Rattle.std.specs.Prelude.{◌≡◌, ◌+◌, ◌≤◌, length, IfOk};
+ghost use Rattle.std.specs.Prelude.{◌≡◌, ◌≢◌, ◌+◌, ◌≤◌, length, IfOk, IfErr, IsErr, Err};
+ghost use Rattle.std.specs.IoError.{error_kind};
 
 use itoa::Buffer;
 use std::io;
+use std::io::ErrorKind;
 
 // How many bytes a line may have and still be printed with one write.
 const ROOM: usize = 1024;
@@ -97,4 +99,16 @@ pub fn print_file(rt: &impl Print, name: &[u8]) -> io::Result<()> {
     let a = add(rt, &mut line, 0, b"file=")?;
     let b = add(rt, &mut line, a, name)?;
     print_line(rt, &mut line, b)
+}
+
+// How a program ends by what its printing has come to. That nobody reads its output any more is no error of the program's.
+pub fn ended(printed: io::Result<()>) -> io::Result<()>
+    ensures same { IfErr result (λ error. printed ≡ Err error) }
+    ensures silent { IfErr result (λ error. error_kind error ≢ ErrorKind.BrokenPipe) }
+    ensures told { IfErr printed (λ error. error_kind error ≢ ErrorKind.BrokenPipe → IsErr result) }
+{
+    match printed {
+        Err(error) if error.kind() == ErrorKind::BrokenPipe => Ok(()),
+        _ => printed,
+    }
 }
