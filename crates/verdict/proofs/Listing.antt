@@ -63,6 +63,7 @@ module _ {most : ℕ} (log : List ℕ) (well : Well most log) where
 
   -- an unclean read, and a cycle, leave none
   pub unclean_never : (f : Fault) → Version most log (unclean f) → Never (explains most log)
+  unclean_never f (version _ x) v = elim x [ ]
   unclean_never f (version_unclean u) v = to_false _ (λ h. clean≢unclean (clean_cleanness log (explains→ most log v h).0) u)
 
   pub cycle_never : (c : List Entry) → Version most log (cycle c) → Never (explains most log)

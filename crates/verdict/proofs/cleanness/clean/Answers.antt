@@ -15,7 +15,7 @@ use Rattle.verdict.proofs.cleanness.clean.Goals as goal
 abbrev In-Passed : Type 0
 In-Passed = Lts.Past-After-enum_told tie.the-claims Reads.Pre Reads.Post
 
-passed : (c : In-Passed) → let a = c.args in (work_refusal a.work-1.now else_try log_refusal a.log.now) ≡ Passed
+passed : (c : In-Passed) → let a = c.args in (work_refusal a.work.now else_try log_refusal a.log.now) ≡ Passed
 unfolding work_refusal
 passed c = sym c.admit-admitted.ensures.says ∙ c.in-Passed.is
 

@@ -4,10 +4,10 @@ use Rattle.verdict.proofs.conflict_graph.touch.Goals as goal
 pub returns : goal.returns
 returns c =
     record {
-      c = c.earlier-before.result;
+      before = c.earlier-before.result;
       known = c.earlier-before.ensures;
       joins = rw c.index.ensures at c.join.ensures;
-      c = c.with_vertex-one.result;
+      one = c.with_vertex-one.result;
       single = rw c.index-2.ensures at c.with_vertex-one.ensures;
       noted = rw c.touched_row.ensures at c.join-2.ensures;
     }

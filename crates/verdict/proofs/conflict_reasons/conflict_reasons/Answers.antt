@@ -20,6 +20,7 @@ use Rattle.verdict.proofs.conflict_reasons.conflict_reasons.Lts
 use Rattle.verdict.proofs.conflict_reasons.conflict_reasons.Tie as tie
 use Rattle.verdict.proofs.conflict_reasons.conflict_reasons.Reads
 use Rattle.verdict.proofs.conflict_reasons.conflict_reasons.Goals as goal
+use Rattle.verdict.proofs.conflict_reasons.conflict_reasons.Goals.{then-takes_part, else-takes_part}
 
 -- places on the way, by the names that the toolchain gives them
 abbrev After-index : Type 0
@@ -99,18 +100,22 @@ loop-j-preserved c =
     let q = (start c.before.before.before).requires in (
       refl,
       omega arith,
-      ⊎_elim
-          (λ w. rw (w.11, add-one (j c.before.before.before)) (ends_offered (the_log c.before.before.before) stands q.3 (j c.before.before.before) (in_range c.before.before.before).1 known.3 (object c.before.before.before)
-          (w.3.ensures ∙ step.tx_is) step.kind_is step.obj_is (w.4.ensures _ _ q.2 known.2)))
-          (λ w. rw (w.2, add-one (j c.before.before.before)) (ends_nothing (the_log c.before.before.before) stands q.3 (j c.before.before.before) (in_range c.before.before.before).1 q.2 (sym (told c.before.before) ∙ w.0.left) known.2)) c.if-takes_part.branch,
-      ⊎_elim
-          (λ w. rw (w.10, add-one (j c.before.before.before)) (touched_more _ _ (sym (told c.before.before) ∙ w.0.taken) (in_range c.before.before.before) known.3 (object c.before.before.before) (w.5.ensures ∙ step.tx_is) w.6.ensures
-          (w.8.ensures ∙ ap₂ touched_row step.kind_is step.obj_is) w.9.ensures))
-          (λ w. rw (w.1, add-one (j c.before.before.before)) (touches_none _ (open_step _ _ (sym (told c.before.before) ∙ w.0.left)) known.3)) c.if-takes_part.branch,
+      elim c.if-takes_part.branch [
+        then-takes_part w ↦ rw (w.best-is, add-one c.loop-j.j) (ends_offered (the_log c.before.before.before) stands q.3 c.loop-j.j (in_range c.before.before.before).1 known.3 (object c.before.before.before)
+          (w.index.ensures ∙ step.tx_is) step.kind_is step.obj_is (w.offer_earlier.ensures _ _ q.2 known.2))
+        | else-takes_part w ↦ rw (w.best-is, add-one c.loop-j.j) (ends_nothing (the_log c.before.before.before) stands q.3 c.loop-j.j (in_range c.before.before.before).1 q.2
+          (sym (told c.before.before) ∙ w.if-takes_part.false) known.2)
+      ],
+      elim c.if-takes_part.branch [
+        then-takes_part w ↦ rw (w.touched-is, add-one c.loop-j.j) (touched_more _ _ (sym (told c.before.before) ∙ w.if-takes_part.true) (in_range c.before.before.before) known.3
+          (object c.before.before.before) (w.index-then-takes_part.ensures ∙ step.tx_is) w.with_vertex-one.ensures
+          (w.touched_row.ensures ∙ ap₂ touched_row step.kind_is step.obj_is) w.join.ensures)
+        | else-takes_part w ↦ rw (w.touched-is, add-one c.loop-j.j) (touches_none _ (open_step _ _ (sym (told c.before.before) ∙ w.if-takes_part.false)) known.3)
+      ],
     )
 
 pub returns : goal.returns
 unfolding steps
 returns c =
     let e : c.loop-j.j ≡ length c.args.log.now / 4 = omega arith in
-    all_conflict_reasons _ (rw e c c.loop-j.invariant.2)
+    all_conflict_reasons _ (rw e at c.loop-j.invariant.2)

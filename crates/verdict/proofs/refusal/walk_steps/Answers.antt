@@ -12,6 +12,7 @@ use Rattle.verdict.proofs.refusal.walk_steps.Lts
 use Rattle.verdict.proofs.refusal.walk_steps.Tie as tie
 use Rattle.verdict.proofs.refusal.walk_steps.Reads
 use Rattle.verdict.proofs.refusal.walk_steps.Goals as goal
+use Rattle.verdict.proofs.refusal.walk_steps.Goals.{then-taken, else-taken}
 
 -- places on the way, by the names that the toolchain gives them
 abbrev Joined-taken : Type 0
@@ -22,7 +23,10 @@ some_missed : (c : Joined-taken) → c.if-taken.missed ≡ some (c.loop-i.i + 1)
 some_missed c =
     let told = c.take_step-taken.ensures.told c.if-taken-ne0.false in
     let next = some_next c.loop-i.i (misses c.args.log.now) in
-    ⊎_elim (λ w. w.1 ∙ sym (next ∙ →or_right _ (sym told ∙ w.0.taken))) (λ w. w.1 ∙ c.loop-i.invariant.5 ∙ sym (next ∙ or_no _ (sym told ∙ w.0.left))) c.if-taken.branch
+    elim c.if-taken.branch [
+      then-taken w ↦ w.missed-is ∙ sym (next ∙ →or_right _ (sym told ∙ w.if-taken.true))
+      | else-taken w ↦ w.missed-is ∙ c.loop-i.invariant.5 ∙ sym (next ∙ or_no _ (sym told ∙ w.if-taken.false))
+    ]
 
 pub loop-i-init : goal.loop-i-init
 unfolding tried some

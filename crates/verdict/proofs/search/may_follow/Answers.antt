@@ -4,4 +4,4 @@ use Rattle.verdict.proofs.search.may_follow.Goals as goal
 
 pub returns : goal.returns
 unfolding may_follow
-returns c = c.fits2.ensures
+returns c = c.fits.ensures

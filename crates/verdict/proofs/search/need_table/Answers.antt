@@ -1,43 +1,29 @@
 -- `need_table` meets its contract.
 use mathlib.Core.Path.{◌≡◌, refl, sym, ◌∙◌}
 use mathlib.Core.Bool.{true}
-use mathlib.Core.Logic.{inl, ⊎_elim}
-use Prim.Native.Nat.{◌+◌, ◌-◌, ◌*◌, ◌/◌, ◌≤◌, ◌<◌}
+use mathlib.Core.Logic.{inl}
+use mathlib.Core.List.{List}
+use Prim.Native.Nat.{ℕ, ◌/◌, ◌≤◌, ◌<◌}
 use native.Mathlib.Omega.{arith}
 use lib.ListN.{length}
 use Rattle.verdict.specs.Limits.{transactions, objects}
 use Rattle.verdict.specs.Log.{steps, tx, obj, src}
+use Rattle.verdict.specs.Refusal.{log_refusal}
+use Rattle.verdict.specs.Clean.{judged_other}
+use Rattle.verdict.specs.declared.answers.Checked.TheVariants.{Passed}
 use Rattle.verdict.proofs.WellFormed.{well_formed}
 use Rattle.verdict.proofs.JudgedReads.{is_read}
 use Rattle.verdict.proofs.SearchTables.{needed_none, needed_same, needed_more, needed_all}
-use Rattle.verdict.proofs.search.need_table.Lts
-use Rattle.verdict.proofs.search.need_table.Tie as tie
-use Rattle.verdict.proofs.search.need_table.Reads
 use Rattle.verdict.proofs.search.need_table.Goals as goal
-
--- places on the way, by the names that the toolchain gives them
-abbrev After-index-column : Type 0
-After-index-column = Lts.After-index2 tie.the-claims Reads.Pre Reads.Post goal.the-invariant-loop-i goal.the-decreases-loop-i
-
-abbrev After-judged_other : Type 0
-After-judged_other = Lts.After-judged_other tie.the-claims Reads.Pre Reads.Post goal.the-invariant-loop-i goal.the-decreases-loop-i
+use Rattle.verdict.proofs.search.need_table.Goals.{then-judged_other, else-judged_other}
 
 -- transaction, object and source of a judged read are within the limits
-within : (c : After-judged_other) → c.judged_other.result ≡ true
-    → let log = c.args.log.now in let i = c.loop-i.i in (tx log i ≤ transactions) × (obj log i < objects) × (src log i ≤ transactions)
-unfolding steps
-within c j =
-    let well = well_formed _ c.loop-i.invariant.2 in
-    let i = c.loop-i.i in
-    let r = is_read _ i (sym c.judged_other.ensures ∙ j) in
-    ((well.range i (omega arith)).1, well.object i (omega arith) (inl r), well.sources i (omega arith) r)
-
--- the entry of the table
-place_in : (c : After-index-column) → c.index-row.result * 64 + c.index-column.result < 8256
-place_in c =
-    let step = c.step_at-step.ensures in
-    let h = within c.before.before.before.before c.if-judged_other.true in
-    omega (arith, c.index-row.ensures, c.index-column.ensures, step.tx_is, step.obj_is, h)
+within : (log : List ℕ) (i : ℕ) → log_refusal log ≡ Passed → i < steps log → judged_other log i ≡ true
+    → (tx log i ≤ transactions) × (obj log i < objects) × (src log i ≤ transactions)
+within log i passed h judged =
+    let well = well_formed log passed in
+    let read = is_read log i judged in
+    ((well.range i h).1, well.object i h (inl read), well.sources i h read)
 
 pub loop-i-init : goal.loop-i-init
 loop-i-init c = (refl, omega arith, c.requires.0, c.requires.1, needed_none _ 8256 (omega arith))
@@ -49,15 +35,24 @@ pub step_at-step-requires : goal.step_at-step-requires
 step_at-step-requires c = omega arith
 
 pub bounds-table-k : goal.bounds-table-k
-bounds-table-k c = place_in c.before
+unfolding steps
+bounds-table-k c =
+    let h = within _ _ c.loop-i.invariant.2 (omega arith) (sym c.judged_other.ensures ∙ c.if-judged_other.true) in
+    let step = c.step_at-step.ensures in
+    omega (arith, c.index-row.ensures, c.index-column.ensures, step.tx_is, step.obj_is, h)
 
 pub with_source-requires : goal.with_source-requires
+unfolding steps
 with_source-requires c =
-    let h = within c.before.before.before.before.before c.if-judged_other.true in
+    let h = within _ _ c.loop-i.invariant.2 (omega arith) (sym c.judged_other.ensures ∙ c.if-judged_other.true) in
     omega (arith, c.step_at-step.ensures.src_is, h)
 
 pub bounds-table-k-then-judged_other : goal.bounds-table-k-then-judged_other
-bounds-table-k-then-judged_other c = place_in c.before.before
+unfolding steps
+bounds-table-k-then-judged_other c =
+    let h = within _ _ c.loop-i.invariant.2 (omega arith) (sym c.judged_other.ensures ∙ c.if-judged_other.true) in
+    let step = c.step_at-step.ensures in
+    omega (arith, c.index-row.ensures, c.index-column.ensures, step.tx_is, step.obj_is, h)
 
 pub overflow_add-i : goal.overflow_add-i
 overflow_add-i c = omega arith
@@ -66,6 +61,7 @@ pub loop-i-smaller : goal.loop-i-smaller
 loop-i-smaller c = omega arith
 
 pub loop-i-preserved : goal.loop-i-preserved
+unfolding steps
 loop-i-preserved c =
     let loop = c.loop-i in
     let says = sym c.judged_other.ensures in (
@@ -73,11 +69,15 @@ loop-i-preserved c =
       omega arith,
       loop.invariant.2,
       loop.invariant.3,
-      ⊎_elim
-          (λ w. let h = within c.before.before w.0.taken in
-          rw (w.5, w.4.ensures, w.2.ensures ∙ w.1.ensures.tx_is, w.3.ensures ∙ w.1.ensures.obj_is, w.1.ensures.src_is)
-          (needed_more _ loop.i loop.invariant.4 (says ∙ w.0.taken) h.0 h.1))
-          (λ w. rw w.1 (needed_same _ loop.i loop.invariant.4 (says ∙ w.0.left))) c.if-judged_other.branch,
+      elim c.if-judged_other.branch [
+        then-judged_other w ↦
+          let judged = says ∙ w.if-judged_other.true in
+          let h = within _ loop.i loop.invariant.2 (omega arith) judged in
+          let step = w.step_at-step.ensures in
+          rw (w.table-is, w.with_source.ensures, w.index-row.ensures ∙ step.tx_is, w.index-column.ensures ∙ step.obj_is, step.src_is)
+          (needed_more _ loop.i loop.invariant.4 judged h.0 h.1)
+        | else-judged_other w ↦ rw w.table-is (needed_same _ loop.i loop.invariant.4 (says ∙ w.if-judged_other.false))
+      ],
     )
 
 pub returns : goal.returns

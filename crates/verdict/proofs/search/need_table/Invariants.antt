@@ -9,7 +9,8 @@ use Rattle.verdict.proofs.SearchTables.{Needed}
 use Rattle.verdict.proofs.search.need_table.Given as goal
 
 abbrev pub invariant-loop-i : goal.invariant-loop-i
-invariant-loop-i l = (l.n ≡ length l.log / 4) × (l.i ≤ l.n) × (log_refusal l.log ≡ Passed) × Committed l.log l.part × Needed l.log l.i l.table
+invariant-loop-i l =
+    (l.n ≡ length l.log / 4) × (l.i ≤ l.n) × (log_refusal l.log ≡ Passed) × Committed l.log l.part × Needed l.log l.i l.table
 
 abbrev pub decreases-loop-i : goal.decreases-loop-i
 decreases-loop-i l = l.n - l.i

@@ -1,10 +1,10 @@
 -- `needed_objects` meets its contract.
 use mathlib.Core.Path.{ap}
-use mathlib.Core.Logic.{⊎_elim}
 use Prim.Native.Nat.{ℕ, ◌*◌}
 use native.Mathlib.Omega.{arith}
 use Rattle.verdict.proofs.NeededMarks.{needed_nothing, needed_none_of, needed_some_of, needed_all_of}
 use Rattle.verdict.proofs.search.needed_objects.Goals as goal
+use Rattle.verdict.proofs.search.needed_objects.Goals.{then-need-row-ne0, else-need-row-ne0}
 
 pub overflow_mul-row : goal.overflow_mul-row
 overflow_mul-row c = omega (arith, c.index-row.ensures, c.requires)
@@ -33,7 +33,11 @@ loop-x-preserved c =
       omega arith,
       inv.1,
       inv.2,
-      ⊎_elim (λ w. rw (w.2, w.1.ensures) (needed_some_of inv.3 (omega arith) (rw inv.1 at w.0.taken))) (λ w. rw w.1 (needed_none_of inv.3 (rw inv.1 at w.0.left))) c.if-need-row-ne0.branch,
+      elim c.if-need-row-ne0.branch [
+        then-need-row-ne0 w ↦
+          rw (w.marks-is, w.with_mark-marks.ensures) (needed_some_of inv.3 (omega arith) (rw inv.1 at w.if-need-row-ne0.true))
+        | else-need-row-ne0 w ↦ rw w.marks-is (needed_none_of inv.3 (rw inv.1 at w.if-need-row-ne0.false))
+      ],
     )
 
 pub returns : goal.returns

@@ -18,6 +18,7 @@ use Rattle.verdict.proofs.snapshots.first_clash.Lts
 use Rattle.verdict.proofs.snapshots.first_clash.Tie as tie
 use Rattle.verdict.proofs.snapshots.first_clash.Reads
 use Rattle.verdict.proofs.snapshots.first_clash.Goals as goal
+use Rattle.verdict.proofs.snapshots.first_clash.Goals.{then-t-ne0+else-loop-p-test, else-t-ne0, then-both-ne0+else-loop-x-test, else-both-ne0}
 
 -- places on the way, by the names that the toolchain gives them
 abbrev After-clashes-both : Type 0
@@ -46,16 +47,17 @@ mark_is c q = sym c.has_mark.ensures ∙ q
 none_clash : (c : Joined-t-ne0) → wrong_commit transactions c.args.log.now c.search.j ≡ false
 unfolding wrong_commit
 none_clash c =
-    ⊎_elim (λ w. let e : w.1.p ≡ 129 = omega (arith, w.1.invariant.0, w.2.left) in rw e at w.1.invariant.1)
-    (λ w. →none _ (λ p h. c.note_commit-t.ensures.nobody w.0.left p)) c.if-t-ne0.branch
+    elim c.if-t-ne0.branch [
+      then-t-ne0+else-loop-p-test w ↦ let e : w.loop-p.p ≡ 129 = omega (arith, w.loop-p.invariant.0, w.loop-p-test.false) in rw e at w.loop-p.invariant.1
+      | else-t-ne0 w ↦ →none _ (λ p h. c.note_commit-t.ensures.nobody w.if-t-ne0.false p)
+    ]
 
 pub search-init : goal.search-init
 unfolding some
 search-init c = (omega arith, nobody_yet _ 64 refl, refl)
 
-note_commit_requires :
-    goal.Need-note-commit-requires
-note_commit_requires c κs =
+pub note_commit-t-requires : goal.note_commit-t-requires
+note_commit-t-requires c =
     let search = c.search in
     let pre = c.requires in
     (pre.0, pre.1, pre.2, search.invariant.1, omega (arith, pre.4))
@@ -74,10 +76,6 @@ pub loop-x-init : goal.loop-x-init
 unfolding some
 loop-x-init c = (omega arith, refl)
 
-has_mark_requires :
-    goal.Need-has-mark-requires
-has_mark_requires c κs = search rules
-
 pub overflow_add-x : goal.overflow_add-x
 overflow_add-x c = omega arith
 
@@ -95,9 +93,10 @@ loop-p-smaller c = omega arith
 
 pub loop-p-preserved : goal.loop-p-preserved
 loop-p-preserved c =
-    let over =
-    ⊎_elim (λ w. let e : w.1.x ≡ 64 = omega (arith, w.1.invariant.0, w.2.left) in rw e at w.1.invariant.1)
-    (λ w. →none _ (λ x _. rw w.left (no_mark x))) c.if-both-ne0.branch in
+    let over : some 64 (marked c.clashes-both.result) ≡ false = elim c.if-both-ne0.branch [
+      then-both-ne0+else-loop-x-test w ↦ let e : w.loop-x.x ≡ 64 = omega (arith, w.loop-x.invariant.0, w.loop-x-test.false) in rw e at w.loop-x.invariant.1
+      | else-both-ne0 w ↦ →none _ (λ x _. rw w.if-both-ne0.false (no_mark x))
+    ] in
     (omega arith, none_next _ _ c.loop-p.invariant.1 (clash_is c.before.before over))
 
 pub overflow_add-j : goal.overflow_add-j

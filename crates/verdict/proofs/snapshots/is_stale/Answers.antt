@@ -72,12 +72,12 @@ is_judged c =
     judged_read _ _ (is_read c.before.before.before.before) (λ e. c.if-step.false (step.src_is ∙ e ∙ sym step.tx_is)) (has_committed _ _ (omega (arith, c.if-log-step_of.false, commit_is c.before)))
 
 -- where it begins
-begin_is : (c : After-step_of-b) → let a = (other.before.before.before.before c.before.before).args in c.step_of-b.result ≡ snapshot_step a.log.now (tx a.log.now a.i)
+begin_is : (c : After-step_of-b) → let a = c.args in c.step_of-b.result ≡ snapshot_step a.log.now (tx a.log.now a.i)
 begin_is c =
     c.step_of-b.ensures ∙ begin_at _ _ (tx_in c.before.before.before.before.before) c.requires.1 ∙ ap (snapshot_step c.args.log.now) c.step_at-step.ensures.tx_is
 
 -- the writer of the next version, and where it commits
-next_is : (c : After-next_of) → let a = (other.before.before.before.before c.before.before.before).args in c.next_of.result ≡ next_writer a.log.now (obj a.log.now a.i) (src a.log.now a.i)
+next_is : (c : After-next_of) → let a = c.args in c.next_of.result ≡ next_writer a.log.now (obj a.log.now a.i) (src a.log.now a.i)
 next_is c =
     let step = c.step_at-step.ensures in
     next_read (known c.before.before.before.before.before.before) c.requires.3 _ (in_log c.before.before.before.before.before.before) (is_read c.before.before.before.before.before.before) step.src_is step.obj_is c.next_of.ensures
@@ -86,7 +86,7 @@ next_in : (c : After-next_of) → c.next_of.result ≤ transactions
 next_in c = rw (next_is c) (next_range _ (known c.before.before.before.before.before.before) _ _)
 
 next_commit_is : (c : After-step_of-2)
-    → let a = (other.before.before.before.before c.before.before.before.before).args in c.step_of-2.result ≡ commit_step a.log.now (next_writer a.log.now (obj a.log.now a.i) (src a.log.now a.i))
+    → let a = c.args in c.step_of-2.result ≡ commit_step a.log.now (next_writer a.log.now (obj a.log.now a.i) (src a.log.now a.i))
 next_commit_is c =
     c.step_of-2.ensures ∙ commit_at _ _ (next_in c.before) c.requires.2 ∙ ap (commit_step c.args.log.now) (next_is c.before)
 
@@ -120,7 +120,7 @@ returns-then-step_of-b c =
 
 pub returns-then-step-eq0 : goal.returns-then-step-eq0
 returns-then-step-eq0 c =
-    let step = (other.before.before c.before.before).step_at-step.ensures in
+    let step = c.step_at-step.ensures in
     sym (store_read _ (known c.before.before.before.before.before.before.before.before.before.before.before) _ (is_judged c.before.before.before.before.before.before.before) (begin_is c.before.before.before.before.before.before) (next_commit_is c.before.before.before.before) c.if-step_of-b.false (sym step.src_is ∙ c.if-step-eq0.true))
 
 pub step_of-requires-3 : goal.step_of-requires-3

@@ -68,11 +68,10 @@ returns-then-since c =
 
 pub returns : goal.returns
 returns c =
-    let s = entry (here c.before.before) in
     let index_is = c.index.ensures in
-    let begin = c.step_of.ensures ∙ begin_at _ _ (in_range (here c.before.before)).1 s.requires.2 ∙ ap (snapshot_step s.args.log.now) (sym index_is) in
+    let begin = c.step_of.ensures ∙ begin_at _ _ (in_range (here c.before.before)).1 c.requires.2 ∙ ap (snapshot_step c.args.log.now) (sym index_is) in
     record {
       last = last_then c.before.before c.put_marked.ensures;
-      nobody = λ _. none_since _ _ s.requires.3 s.requires.1 (committing c.before.before) (omega (arith, index_is, (in_range (here c.before.before)).1)) (well_formed _ s.requires.0) begin (sym c.marked_above-since.ensures ∙ c.if-since.false);
+      nobody = λ _. none_since _ _ c.requires.3 c.requires.1 (committing c.before.before) (omega (arith, index_is, (in_range (here c.before.before)).1)) (well_formed _ c.requires.0) begin (sym c.marked_above-since.ensures ∙ c.if-since.false);
       commit = λ h. absurd (h refl);
     }

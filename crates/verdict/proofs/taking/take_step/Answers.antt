@@ -12,8 +12,8 @@ use Rattle.verdict.proofs.taking.take_step.Reads
 use Rattle.verdict.proofs.taking.take_step.Goals as goal
 
 -- places on the way, by the names that the toolchain gives them
-abbrev Else-kind-lt4-1 : Type 0
-Else-kind-lt4-1 = Lts.Else2 tie.the-claims Reads.Pre Reads.Post
+abbrev In-4 : Type 0
+In-4 = Lts.Past-Then3 tie.the-claims Reads.Pre Reads.Post
 
 abbrev In-1 : Type 0
 In-1 = Lts.Past-At-match-keys1 tie.the-claims Reads.Pre Reads.Post
@@ -28,10 +28,10 @@ is_begin c = sym c.step_at-step.ensures.kind_is ∙ c.in-1.is
 is_touch : (c : In-2) → let a = c.args in (2 ≤ kind a.log.now a.i) × (kind a.log.now a.i ≤ 3)
 is_touch c =
     let is = c.step_at-step.ensures.kind_is in
-    (omega (arith, is, c.if-kind-lt1.false, c.in-1.rest.1), omega (arith, is, c.if-kind-lt4.true))
+    (omega (arith, is), omega (arith, is))
 
-is_last : (c : Else-kind-lt4-1) → let a = (above-none.before.before c.before).args in 4 ≤ kind a.log.now a.i
-is_last c = omega (arith, c.step_at-step.ensures.kind_is.before.before, c.if-kind-lt4.false)
+is_last : (c : In-4) → let a = c.args in 4 ≤ kind a.log.now a.i
+is_last c = omega (arith, c.step_at-step.ensures.kind_is)
 
 pub step_at-step-requires : goal.step_at-step-requires
 unfolding steps
@@ -45,12 +45,13 @@ take_begin-requires c =
 pub take_touch-requires : goal.take_touch-requires
 take_touch-requires c =
     let known = c.requires in
-    (known.0, (is_touch c.before.before).0, (is_touch c.before.before).1, known.2.has_lived, known.2.has_written, known.2.writes_size)
+    let is = is_touch c.before.before in
+    (known.0, is.0, is.1, known.2.has_lived, known.2.has_written, known.2.writes_size)
 
 pub take_last-requires : goal.take_last-requires
 take_last-requires c =
     let known = c.requires in
-    (known.0, known.1, is_last c.before, omega (arith, c.step_at-step.ensures.kind_is, c.if-kind-lt6.true), known.2.has_lived, known.2.has_committed)
+    (known.0, known.1, omega (arith, c.step_at-step.ensures.kind_is), omega (arith, c.step_at-step.ensures.kind_is), known.2.has_lived, known.2.has_committed)
 
 pub returns-in-1 : goal.returns-in-1
 returns-in-1 c =
@@ -64,27 +65,29 @@ returns-in-1 c =
 pub returns-in-2 : goal.returns-in-2
 returns-in-2 c =
     let ends = c.take_touch.ensures in
+    let is = is_touch c.before.before.before in
     record {
       says = ends.0;
-      noted = λ e. let behind = ends.1 e in behind_touch _ _ c.requires.2 (is_touch c.before.before.before).0 (is_touch c.before.before.before).1 behind.0 behind.1;
+      noted = λ e. let behind = ends.1 e in behind_touch _ _ c.requires.2 is.0 is.1 behind.0 behind.1;
       told = λ e. (ends.1 e).2;
     }
 
 pub returns-in-4 : goal.returns-in-4
 returns-in-4 c =
     let ends = c.take_last.ensures in
+    let is = is_last c.before.before.before.before.before.before in
     record {
       says = ends.0;
-      noted = λ e. let behind = ends.1 e in behind_last _ _ (above-none.before.before c.before).requires.2 (is_last c) behind.0 behind.1;
-      told = λ _. sym (no_read_misses _ _ (λ q. omega (arith, q, is_last c)));
+      noted = λ e. let behind = ends.1 e in behind_last _ _ c.requires.2 is behind.0 behind.1;
+      told = λ _. sym (no_read_misses _ _ (λ q. omega (arith, q, is)));
     }
 
 pub returns-in_default : goal.returns-in_default
 returns-in_default c =
     let is = c.step_at-step.ensures.kind_is in
-    turned_away _ _ (to_false _ (λ h. omega (arith, upto→ (and→ h).0, is, c.if-kind-lt1.true)))
+    turned_away _ _ (to_false _ (λ h. omega (arith, upto→ (and→ h).0, is)))
 
 pub returns-in_default-2 : goal.returns-in_default-2
 returns-in_default-2 c =
-    let is = c.step_at-step.ensures.kind_is.before.before in
-    turned_away _ _ (to_false _ (λ h. omega (arith, upto→ (and→ h).1, is, c.if-kind-lt6.false)))
+    let is = c.step_at-step.ensures.kind_is in
+    turned_away _ _ (to_false _ (λ h. omega (arith, upto→ (and→ h).1, is)))

@@ -26,29 +26,17 @@ use Rattle.verdict.proofs.version_graph.judge_version.Goals as goal
 abbrev After-sort-found : Type 0
 After-sort-found = Lts.After-sort tie.the-claims Reads.Pre Reads.Post
 
-abbrev In_default : Type 0
-In_default = Lts.Past-After-enum_told tie.the-claims Reads.Pre Reads.Post
-
-abbrev Start : Type 0
-Start = Lts.Start tie.the-claims Reads.Pre Reads.Post
-
 -- what is shown, and that it stands first in its list
 module _ (c : After-sort-found) where
-  abbrev known : In_default
-  known = c.before.before.before.before.before
-
-  abbrev start : Start
-  start = known.before.before.before
-
-  is_yes : cleanness start.args.log.now ≡ Yes
-  is_yes = sym start.requires.1 ∙ known.in_default.is
+  is_yes : cleanness c.args.log.now ≡ Yes
+  is_yes = sym c.requires.1 ∙ c.in_default.is
 
   front : Front c.sort-found.result.list c.sort-found.result.count c.sort-found.ensures.members
   front = let s = c.sort-found.ensures in front_of s.listed (search rules) s.counted
 
-  shown : Shows (suc transactions) (committed start.args.log.now) (version_edge start.args.log.now) c.sort-found.result.shape c.sort-found.ensures.members
+  shown : Shows (suc transactions) (committed c.args.log.now) (version_edge c.args.log.now) c.sort-found.result.shape c.sort-found.ensures.members
   shown =
-      let q = start.requires in
+      let q = c.requires in
       shown_of q.2 c.draw.ensures (version_between _ (well_formed _ q.0) (cleanness_clean _ is_yes)) c.sort-found.ensures
 
 pub returns-in-Unclean : goal.returns-in-Unclean
@@ -75,8 +63,8 @@ slice_bounds-version_cycle-end c = (front c.before.before.before.before.before).
 
 pub version_cycle-requires : goal.version_cycle-requires
 version_cycle-requires c =
-    let q = (start c.before.before.before.before.before).requires in
-    (q.0, cleanness_clean _ (is_yes c.before.before.before.before.before), q.2, q.3, (shown_cycle {on = version_on (start c.before.before.before.before.before).args.log.now} (shown c.before.before.before.before.before) c.in-Cycle.is (front c.before.before.before.before.before).same).0)
+    let q = c.requires in
+    (q.0, cleanness_clean _ (is_yes c.before.before.before.before.before), q.2, q.3, (shown_cycle {on = version_on c.args.log.now} (shown c.before.before.before.before.before) c.in-Cycle.is (front c.before.before.before.before.before).same).0)
 
 pub returns-in-Order : goal.returns-in-Order
 returns-in-Order c =

@@ -1,14 +1,14 @@
 -- `committed_count` meets its contract.
 use mathlib.Core.Path.{◌≡◌, refl, sym, ap, ◌∙◌}
-use mathlib.Core.Logic.{⊎_elim}
 use Prim.Native.Nat.{suc, ◌/◌}
 use native.Mathlib.Omega.{arith}
 use native.Mathlib.Numerals.{add-one}
 use lib.ListN.{length}
-use Rattle.words.specs.Tests.{◌is◌, count}
+use Rattle.words.specs.Tests.{count}
 use Rattle.words.proofs.Truth.{→is, →isnt, count_yes, count_no}
 use Rattle.verdict.specs.Log.{steps, committed_count}
 use Rattle.verdict.proofs.walk.committed_count.Goals as goal
+use Rattle.verdict.proofs.walk.committed_count.Goals.{then-step-eq-COMMIT, else-step-eq-COMMIT}
 
 pub loop-i-init : goal.loop-i-init
 unfolding count
@@ -32,9 +32,16 @@ loop-i-preserved c =
     let step = c.step_at-step.ensures in (
       refl,
       omega arith,
-      ⊎_elim (λ w. omega (arith, w.1)) (λ w. omega (arith, w.1)) c.if-step-eq-COMMIT.branch,
-      ⊎_elim (λ w. w.1 ∙ add-one _ ∙ ap suc inv.3 ∙ sym (count_yes _ _ (→is (sym step.kind_is ∙ w.0.taken))))
-          (λ w. w.1 ∙ inv.3 ∙ sym (count_no _ _ (→isnt (λ e. w.0.left (step.kind_is ∙ e))))) c.if-step-eq-COMMIT.branch,
+      elim c.if-step-eq-COMMIT.branch [
+        then-step-eq-COMMIT w ↦ omega (arith, w.total-is)
+        | else-step-eq-COMMIT w ↦ omega (arith, w.total-is)
+      ],
+      elim c.if-step-eq-COMMIT.branch [
+        then-step-eq-COMMIT w ↦
+          w.total-is ∙ add-one _ ∙ ap suc inv.3 ∙ sym (count_yes _ _ (→is (sym step.kind_is ∙ w.if-step-eq-COMMIT.true)))
+        | else-step-eq-COMMIT w ↦
+          w.total-is ∙ inv.3 ∙ sym (count_no _ _ (→isnt (λ e. w.if-step-eq-COMMIT.false (step.kind_is ∙ e))))
+      ],
     )
 
 pub returns : goal.returns

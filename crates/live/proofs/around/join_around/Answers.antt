@@ -1,0 +1,40 @@
+-- `join_around` meets its contract.
+use mathlib.Core.Path.{sym, ◌∙◌}
+use native.Mathlib.Omega.{arith}
+use Rattle.words.proofs.Truth.{fails→, not_fails}
+use Rattle.live.proofs.AroundLaws.{joining_none, joining_more, joining_all, joining_before}
+use Rattle.live.proofs.around.join_around.Goals as goal
+
+pub shape_of-edges-then-not-any : goal.shape_of-edges-then-not-any
+shape_of-edges-then-not-any c = c.lent_join.ensures.size
+
+pub returns-then-not-any : goal.returns-then-not-any
+returns-then-not-any c =
+    let p = c.requires in
+    joining_before p.0 p.1 p.2 p.3 (sym c.any.ensures ∙ fails→ (sym (not_fails _) ∙ c.if-not-any.true)) c.lent_join.ensures
+
+pub loop-q-init : goal.loop-q-init
+loop-q-init c = let q = c.requires in (omega arith, omega arith, q.3, c.lent_join.ensures.size ∙ q.0, joining_none _ _ _)
+
+pub join_one-requires : goal.join_one-requires
+join_one-requires c = let i = c.loop-q.invariant in i.4.size ∙ i.3
+
+pub overflow_add-q : goal.overflow_add-q
+overflow_add-q c = omega arith
+
+pub loop-q-smaller : goal.loop-q-smaller
+loop-q-smaller c = omega arith
+
+pub loop-q-preserved : goal.loop-q-preserved
+loop-q-preserved c =
+    let i = c.loop-q.invariant in
+    let p = c.requires in
+    (omega arith, omega arith, i.2, i.3, joining_more p.1 p.2 i.0 c.with_vertex-only.ensures i.4 c.join_one.ensures)
+
+pub shape_of-edges : goal.shape_of-edges
+shape_of-edges c = c.loop-q.invariant.4.size ∙ c.lent_join.ensures.size
+
+pub returns : goal.returns
+returns c =
+    let p = c.requires in
+    joining_all p.0 p.1 p.2 (omega arith) c.lent_join.ensures c.loop-q.invariant.4

@@ -1,0 +1,15 @@
+-- What the loop of `put_low` keeps, and why it ends.
+use mathlib.Core.Path.{◌≡◌}
+use Prim.Native.Nat.{◌≤◌, ◌-◌}
+use lib.ListN.{length}
+use Rattle.text.specs.Inner.Put.{put_at}
+use Rattle.text.specs.Inner.Ready.{low_bytes}
+use Rattle.text.proofs.Readies.{rest_of}
+use Rattle.text.proofs.ready.put_low.Given as goal
+
+abbrev pub invariant-loop-i : goal.invariant-loop-i
+invariant-loop-i l =
+    (l.i ≤ l.most) × (length l.out ≡ length l.initial.out) × (l.rest ≡ rest_of l.i l.w) × (l.out ≡ put_at l.at (low_bytes l.i l.w) l.initial.out)
+
+abbrev pub decreases-loop-i : goal.decreases-loop-i
+decreases-loop-i l = l.most - l.i

@@ -1,0 +1,32 @@
+-- `put_version` meets its contract: what the answer holds is told behind its key.
+use Rattle.text.specs.Bytes.{bytes}
+use Rattle.text.specs.Report.{VersionLine, version_line}
+use Rattle.text.specs.Inner.Put.{most_long}
+use Rattle.text.proofs.Tells.{line_fits, line_puts}
+use Rattle.text.proofs.Room.{version_fits}
+use Rattle.text.proofs.reports.put_version.Lts
+use Rattle.text.proofs.reports.put_version.Tie as tie
+use Rattle.text.proofs.reports.put_version.Reads
+use Rattle.text.proofs.reports.put_version.Goals as goal
+
+-- places on the way, by the names that the toolchain gives them
+abbrev After-list-1 : Type 0
+After-list-1 = Lts.After-list tie.the-claims Reads.Pre Reads.Post
+
+pub put_answer-requires : goal.put_answer-requires
+unfolding bytes
+put_answer-requires c =
+    let s = (let d : After-list-1 = c.before.before.before in d.before.before.before) in
+    let log = s.args.log.now in
+    let h = s.requires.1 in
+    let line = version_line h.right in
+    line_fits h most_long (VersionLine log) (bytes "version=") line (version_fits log s.requires.0 line) s.args.out.now s.args.at s.requires.2
+
+pub returns : goal.returns
+unfolding bytes
+returns c =
+    let s = (let d : After-list-1 = c.before.before.before.before in d.before.before.before) in
+    let log = s.args.log.now in
+    let h = s.requires.1 in
+    let line = version_line h.right in
+    line_puts h most_long (VersionLine log) (bytes "version=") line (version_fits log s.requires.0 line) s.args.out.now s.args.at c.put_answer.ensures
