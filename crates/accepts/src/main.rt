@@ -64,11 +64,7 @@ fn print_input(rt: &impl Runtime, members: &[u16; Transaction::COUNT]) -> io::Re
 }
 
 // Prints whether a proposal for the log in the file that an argument names will do.
-fn print_file(
-    rt: &impl Runtime,
-    i: usize,
-    members: &[u16; Transaction::COUNT],
-) -> io::Result<()> {
+fn print_file(rt: &impl Runtime, i: usize, members: &[u16; Transaction::COUNT]) -> io::Result<()> {
     let mut text = [0u8; Text::LIMIT + 1];
     let got = read_named(rt, i, &mut text);
     let n = got.bytes;

@@ -25,11 +25,7 @@ fn print_text(rt: &impl Print, log: &[u16]) -> io::Result<()> {
 }
 
 // Prints what is kept of the log of a text.
-fn print_kept(
-    rt: &impl Print,
-    text: &[u8],
-    marks: &[u8; Transaction::TABLE],
-) -> io::Result<()> {
+fn print_kept(rt: &impl Print, text: &[u8], marks: &[u8; Transaction::TABLE]) -> io::Result<()> {
     let mut steps = [0u16; 4 * Log::LIMIT];
     let mut kept = [0u16; 4 * Log::LIMIT];
     let answer = read(text, &mut steps);

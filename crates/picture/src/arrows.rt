@@ -8,7 +8,7 @@ use std::io;
 use verdict::{RW, Step, Transaction, WR, WW};
 
 // Why one transaction must come before another: the kind of the reason, and its object.
-#[derive(Drop)]
+#[derive(Clone, Copy)]
 struct Reason {
     first: u16,
     then: u16,
@@ -17,7 +17,7 @@ struct Reason {
 }
 
 // An arrow, by its ends on the page.
-#[derive(Drop)]
+#[derive(Clone, Copy)]
 struct Arrow {
     x1: u32,
     y1: u32,
@@ -165,11 +165,9 @@ pub(crate) fn print_arrows(
     lanes: &[u16; Transaction::TABLE],
     witness: &[u16; Transaction::WITNESS],
 ) -> io::Result<()> {
-    let mut i: u16 = 0;
-    while i < page.cycle {
+    for i in 0..page.cycle {
         let reason = reason_at(witness, i, page.cycle);
         print_line(rt, arrow_of(page, log, lanes, reason))?;
-        i += 1;
     }
     Ok(())
 }
@@ -182,11 +180,9 @@ pub(crate) fn print_reasons(
     lanes: &[u16; Transaction::TABLE],
     witness: &[u16; Transaction::WITNESS],
 ) -> io::Result<()> {
-    let mut i: u16 = 0;
-    while i < page.cycle {
+    for i in 0..page.cycle {
         let reason = reason_at(witness, i, page.cycle);
         print_reason(rt, page, arrow_of(page, log, lanes, reason), reason)?;
-        i += 1;
     }
     Ok(())
 }

@@ -17,11 +17,9 @@ fn mark_one(lanes: &mut [u16; Transaction::TABLE], tx: u16) {
 
 // Marks the transactions that have a step.
 fn mark_all(log: &[u16; NUMBERS], lanes: &mut [u16; Transaction::TABLE], steps: u16) {
-    let mut i: u16 = 0;
-    while i < steps {
+    for i in 0..steps {
         let step = step_at(log, i);
         mark_one(lanes, step.tx);
-        i += 1;
     }
 }
 
@@ -48,10 +46,8 @@ pub(crate) fn give_lanes(
 ) -> u16 {
     mark_all(log, lanes, steps);
     let mut given = 0;
-    let mut tx: u16 = 1;
-    while tx <= Transaction::LIMIT {
+    for tx in 1..=Transaction::LIMIT {
         given = give(lanes, tx, given);
-        tx += 1;
     }
     given
 }
@@ -98,13 +94,11 @@ fn print_lane(
     lane: u16,
 ) -> io::Result<()> {
     open_lane(rt, page, log, tx, lane)?;
-    let mut i: u16 = 0;
-    while i < MOST {
+    for i in 0..MOST {
         let step = step_at(log, i);
         if step.tx == tx {
             print_mark(rt, page, i, step)?;
         }
-        i += 1;
     }
     rt.write_all(b"</g>\n")
 }
@@ -116,13 +110,11 @@ pub(crate) fn print_lanes(
     log: &[u16; NUMBERS],
     lanes: &[u16; Transaction::TABLE],
 ) -> io::Result<()> {
-    let mut tx: u16 = 1;
-    while tx <= Transaction::LIMIT {
+    for tx in 1..=Transaction::LIMIT {
         let lane = lane_of(lanes, tx);
         if 0 < lane {
             print_lane(rt, page, log, tx, lane)?;
         }
-        tx += 1;
     }
     Ok(())
 }

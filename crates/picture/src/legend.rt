@@ -61,11 +61,9 @@ pub(crate) fn print_style(rt: &impl Print, page: Page) -> io::Result<()> {
 pub(crate) fn open_legend(rt: &impl Print, page: Page) -> io::Result<()> {
     let y = line(page, meaning_line(page));
     if labelled(page) {
-        print_filled(rt, b"<g transform='translate(20,%)'>\n", &[y])?;
-    } else {
-        print_filled(rt, b"<g transform='translate(20,%) scale(2)'>\n", &[y])?;
+        return print_filled(rt, b"<g transform='translate(20,%)'>\n", &[y]);
     }
-    Ok(())
+    print_filled(rt, b"<g transform='translate(20,%) scale(2)'>\n", &[y])
 }
 
 // Says what the marks mean.

@@ -49,10 +49,8 @@ pub(crate) fn print_cycle(
         b"<title>version=cycle</title>\n<text class='words' x='20' y='%'>version=cycle",
         &[line(page, 1)],
     )?;
-    let mut i: u16 = 0;
-    while i < page.cycle {
+    for i in 0..page.cycle {
         print_member(rt, page, witness, i)?;
-        i += 1;
     }
     rt.write_all(b"</text>\n")
 }
@@ -86,13 +84,11 @@ pub(crate) fn print_order(
         b"<text class='words' x='20' y='%'>order",
         &[line(page, 1)],
     )?;
-    let mut i: u16 = 0;
-    while i < page.order {
+    for i in 0..page.order {
         if 0 < i && i % 16 == 0 {
             break_line(rt, line(page, i as u32 / 16 + 1))?;
         }
         print_filled(rt, b" %", &[entry(witness, 3 * i as usize) as u32])?;
-        i += 1;
     }
     rt.write_all(b"</text>\n")
 }
@@ -110,12 +106,10 @@ fn print_number(rt: &impl Print, page: Page, i: u16) -> io::Result<()> {
 
 // Prints the numbers of the steps: all of them, or each fiftieth where there are many.
 pub(crate) fn print_numbers(rt: &impl Print, page: Page) -> io::Result<()> {
-    let mut i: u16 = 0;
-    while i < page.steps {
+    for i in 0..page.steps {
         if labelled(page) || i % 50 == 0 {
             print_number(rt, page, i)?;
         }
-        i += 1;
     }
     Ok(())
 }
