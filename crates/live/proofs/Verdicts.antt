@@ -238,11 +238,11 @@ module _ (most : ℕ) (full : List ℕ → Bool) where
 
   all_reached : {j : State} (run : List ℕ) → Reached most j → Reached most (after_all most full j run)
   unfolding after_all
-  all_reached (k ∷ t ∷ x ∷ s ∷ rest) r = all_reached rest (after_reached k t x s r)
-  all_reached [] r = r
-  all_reached (k ∷ []) r = r
-  all_reached (k ∷ t ∷ []) r = r
-  all_reached (k ∷ t ∷ x ∷ []) r = r
+  all_reached {j = j} (k ∷ t ∷ x ∷ s ∷ rest) r = all_reached {j = after most full j k t x s} rest (after_reached k t x s r)
+  all_reached {j = j} [] r = r
+  all_reached {j = j} (k ∷ []) r = r
+  all_reached {j = j} (k ∷ t ∷ []) r = r
+  all_reached {j = j} (k ∷ t ∷ x ∷ []) r = r
 
   reached→ : {log : List ℕ} → Reached most (going log) → Accepted most log
   reached→ (still ok) = ok

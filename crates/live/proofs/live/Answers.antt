@@ -35,14 +35,14 @@ take_part-after-requires c =
     (f.sized, used_few _ c.places_used.ensures, f.whole)
 
 pub bounds-state-0-2 : goal.bounds-state-0-2
-bounds-state-0-2 c = omega (arith, (fits (c.before.before.before.before.before.before.before.before.before.before.before.before.before.before.before.before.before.before.before.before)).state)
+bounds-state-0-2 c = omega (arith, (fits c.before.before.before.before.before.before.before.before.before.before.before.before.before.before.before.before.before.before.before.before.before).state)
 
 pub bounds-state-1-2 : goal.bounds-state-1-2
-bounds-state-1-2 c = simp length-set (omega (arith, (fits (c.before.before.before.before.before.before.before.before.before.before.before.before.before.before.before.before.before.before.before.before)).state))
+bounds-state-1-2 c = simp length-set (omega (arith, (fits c.before.before.before.before.before.before.before.before.before.before.before.before.before.before.before.before.before.before.before.before.before).state))
 
 pub bounds-state-2-2 : goal.bounds-state-2-2
-bounds-state-2-2 c = simp length-set (omega (arith, (fits (c.before.before.before.before.before.before.before.before.before.before.before.before.before.before.before.before.before.before.before.before.before)).state))
+bounds-state-2-2 c = simp length-set (omega (arith, (fits c.before.before.before.before.before.before.before.before.before.before.before.before.before.before.before.before.before.before.before.before.before.before).state))
 
 pub returns : goal.returns
 returns c =
-    accepted (c.call_number-number.ensures.none c.if-number-ne0.false) (fits (c.before.before.before.before.before.before.before.before.before.before.before.before.before.before.before.before.before.before.before.before.before)).state c.places_used.ensures c.take_part-after.ensures
+    accepted (c.call_number-number.ensures.none c.if-number-ne0.false) (fits c.before.before.before.before.before.before.before.before.before.before.before.before.before.before.before.before.before.before.before.before.before.before).state c.places_used.ensures c.take_part-after.ensures

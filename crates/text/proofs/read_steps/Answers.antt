@@ -26,7 +26,7 @@ In-To = Lts.Past-After-known_told2 tie.the-claims Reads.Pre Reads.Post
 abbrev Finds : After-pass-seen → Lines → Type 0
 Finds c r =
     let a = c.args in
-    Passes a.text.now a.at a.n (zeros step_entries) r c.pass-seen.new.1.1.1.0
+    Passes a.text.now a.at a.n (zeros step_entries) r c.pass-seen.new.steps
 
 found_bad : (c : In-Bad) → Finds c.before.before (Bad c.in-Bad.i)
 unfolding zeros

@@ -11,7 +11,7 @@ shape_of-edges-then-not-any c = c.lent_join.ensures.size
 pub returns-then-not-any : goal.returns-then-not-any
 returns-then-not-any c =
     let p = c.requires in
-    joining_before p.0 p.1 p.2 p.3 (sym c.any.ensures ∙ fails→ (sym (not_fails _) ∙ c.if-not-any.true)) c.lent_join.ensures
+    joining_before p.0 p.1 p.2 p.3 (sym c.any.ensures ∙ c.if-not-any.true) c.lent_join.ensures
 
 pub loop-q-init : goal.loop-q-init
 loop-q-init c = let q = c.requires in (omega arith, omega arith, q.3, c.lent_join.ensures.size ∙ q.0, joining_none _ _ _)

@@ -47,13 +47,13 @@ pub take-told-requires : goal.take-told-requires
 take-told-requires c = let i = c.loop-i.invariant in (i.sized, i.room)
 
 pub offset_bounds-answers-i : goal.offset_bounds-answers-i
-offset_bounds-answers-i c = omega (arith, (mul-take c.before.before.before.before.before.before.before.before.before.before.before.before.before.before.before).fits)
+offset_bounds-answers-i c = let i = c.loop-i.invariant in omega (arith, i.whole, i.size, i.far)
 
 pub bounds-answers-i : goal.bounds-answers-i
 bounds-answers-i c = let i = c.loop-i.invariant in omega (arith, i.whole, i.size, i.far)
 
 pub overflow_add-i : goal.overflow_add-i
-overflow_add-i c = omega (arith, (mul-take c.before.before.before.before.before.before.before.before.before.before.before.before.before.before.before).fits)
+overflow_add-i c = let i = c.loop-i.invariant in omega (arith, i.whole, i.size, i.far)
 
 pub loop-i-smaller : goal.loop-i-smaller
 loop-i-smaller c = let i = c.loop-i.invariant in omega (arith, i.whole, i.size, i.far)

@@ -23,8 +23,7 @@ text c = c.args.text.now
 
 -- the line that was found
 line_there : (c : In-At) →
-    let n = c.k-1.given.0 in
-    FindsLine (text c.before.before) c.loop-i.place (At n.0 n.1.0 n.1.1.0 n.1.1.1.0 n.1.1.1.1.0)
+    FindsLine (text c.before.before) c.loop-i.place (At c.in-At.k c.in-At.t c.in-At.x c.in-At.s c.in-At.next)
 line_there c = subst (FindsLine (text c.before.before) c.loop-i.place) c.in-At.is c.line_at.ensures
 
 pub loop-i-init : goal.loop-i-init
@@ -55,7 +54,7 @@ pub loop-i-preserved : goal.loop-i-preserved
 loop-i-preserved c =
     let f = line_there c.before.before.before.before.before in
     let g = c.loop-i.invariant in
-    (omega arith, f.1, c.put_step.auto.0 ∙ g.2, gone_on _ _ _ _ _ f _ c.put_step.ensures g.3)
+    (omega arith, f.1, c.put_step.auto.steps ∙ g.2, gone_on _ _ _ _ _ f _ c.put_step.ensures g.3)
 
 pub shape_of-steps : goal.shape_of-steps
 shape_of-steps c = c.loop-i.invariant.2

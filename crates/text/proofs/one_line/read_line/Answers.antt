@@ -22,8 +22,7 @@ no_header c = no_header_told _ c.is_header.ensures c.if-is_header.false
 
 -- the line that was found
 line_there : (c : In-At) →
-    let n = c.k-1.given.0 in
-    FindsLine c.args.bytes.now 0 (At n.0 n.1.0 n.1.1.0 n.1.1.1.0 n.1.1.1.1.0)
+    FindsLine c.args.bytes.now 0 (At c.in-At.k c.in-At.t c.in-At.x c.in-At.s c.in-At.end)
 line_there c = subst (FindsLine c.args.bytes.now 0) c.in-At.is c.line_at.ensures
 
 pub returns-then-is_header : goal.returns-then-is_header

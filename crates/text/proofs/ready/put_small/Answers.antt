@@ -40,9 +40,9 @@ module _ (s : Start) where
 key_leads : (c : After-put_word-a) → Leads c.args.key.now c.args.at c.args.out.now c.put_word-a.result c.put_word-a.new.out
 key_leads c = puts_lead c.args.key.now c.args.out.now c.args.at (key_fits c.before.before.before.before) c.put_word-a.ensures
 
-number_leads : (c : After-put_low) → Leads (decimal c.args.n) c.put_word-a.result c.put_word-a.last.out (c.put_word-a.result + entry_of c.before.before.before.before.before.before.before.before.before.before / 16777216) c.put_low.new.out
+number_leads : (c : After-put_low) → Leads (decimal c.args.n) c.put_word-a.result c.put_word-a.new.out (c.put_word-a.result + entry_of c.before.before.before.before.before.before.before.before.before.before / 16777216) c.put_low.new.out
 number_leads c =
-    ready_leads 4 16777216 (entry_of c.before.before.before.before.before.before.before.before.before.before) (decimal c.args.n) c.put_word-a.last.out c.put_low.new.out c.put_word-a.result (ready c.before.before.before.before.before.before.before.before.before.before)
+    ready_leads 4 16777216 (entry_of c.before.before.before.before.before.before.before.before.before.before) (decimal c.args.n) c.put_word-a.new.out c.put_low.new.out c.put_word-a.result (ready c.before.before.before.before.before.before.before.before.before.before)
     (omega (arith, few c.before.before.before.before.before.before.before.before.before.before)) (omega (arith, (key_leads c.before.before.before.before.before.before).reaches, (key_leads c.before.before.before.before.before.before).size, c.requires.0)) c.put_low.ensures
 
 -- the byte behind has room

@@ -7,6 +7,7 @@ use Rattle.text.specs.Bytes.{bytes, blank}
 use Rattle.text.specs.Line.{word}
 use Rattle.text.specs.Inner.Ready.{low_bytes, ReadyWord}
 use Rattle.text.proofs.Words.{other_word}
+use native.Mathlib.Omega.{arith}
 use Rattle.text.proofs.ready.ready_word.Goals as goal
 
 -- a number that is ready for a word, whatever that one is called
@@ -35,4 +36,5 @@ returns-in-4 c = of_kind _ c.in-4.is (record { says = refl; counts = refl })
 
 pub returns-in_default : goal.returns-in_default
 unfolding word bytes low_bytes ◌is◌ if◌then◌else◌
-returns-in_default c = let r = c.in-1.rest in as_word _ (other_word _ r.0.0.0.1 r.0.0.1 r.0.1 r.1) (record { says = refl; counts = refl })
+returns-in_default c =
+    as_word _ (other_word c.args.k (λ e. omega (arith, e)) (λ e. omega (arith, e)) (λ e. omega (arith, e)) (λ e. omega (arith, e))) (record { says = refl; counts = refl })

@@ -90,7 +90,7 @@ loop-i-preserved c =
     let p = c.put_member-place in
     (
       omega arith,
-      p.auto.0 ∙ c.loop-i.invariant.1,
+      p.auto.out ∙ c.loop-i.invariant.1,
       member_put (all c.before.before.before.before.before.before.before.before.before) c.args.out.now c.args.at c.requires.1 (i c.before.before.before.before.before.before.before.before.before) (inside c.before.before.before.before.before.before.before.before.before (omega arith)) (one c.before.before.before.before.before.before.before.before.before) (entry_at c.args.n (list c.before.before.before.before.before.before.before.before.before) (i c.before.before.before.before.before.before.before.before.before) (omega arith) (one c.before.before.before.before.before.before.before.before.before)) c.loop-i.invariant.2 p.ensures,
     )
 

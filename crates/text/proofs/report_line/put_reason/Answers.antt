@@ -50,5 +50,5 @@ returns-then-kind-eq-RW c = puts c.before.before.before.before.before.before.bef
 
 pub returns : goal.returns
 returns c =
-    let s : Start = c.before.before.before.before in
+    let s : Start = c.before.before.before.before.before in
     puts s (reason_none _ _ c.if-kind-eq-WW.false c.if-kind-eq-WR.false c.if-kind-eq-RW.false) (puts_nothing s.args.out.now s.args.at)

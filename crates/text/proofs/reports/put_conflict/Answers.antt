@@ -10,13 +10,10 @@ use Rattle.text.proofs.reports.put_conflict.Reads
 use Rattle.text.proofs.reports.put_conflict.Goals as goal
 
 -- places on the way, by the names that the toolchain gives them
-abbrev After-list-1 : Type 0
-After-list-1 = Lts.After-list tie.the-claims Reads.Pre Reads.Post
-
 pub put_answer-requires : goal.put_answer-requires
 unfolding bytes
 put_answer-requires c =
-    let s = (let d : After-list-1 = c.before.before.before in d.before.before.before) in
+    let s = c in
     let log = s.args.log.now in
     let h = s.requires.1 in
     let line = conflict_line h.right in
@@ -25,7 +22,7 @@ put_answer-requires c =
 pub returns : goal.returns
 unfolding bytes
 returns c =
-    let s = (let d : After-list-1 = c.before.before.before.before in d.before.before.before) in
+    let s = c in
     let log = s.args.log.now in
     let h = s.requires.1 in
     let line = conflict_line h.right in

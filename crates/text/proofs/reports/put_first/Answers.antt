@@ -57,14 +57,14 @@ put₁ : (c : After-put_item-a) → Puts (line₁ c.before.before.before.before.
 unfolding header steps bytes
 put₁ c = c.put_item-a.ensures
 
-put₂ : (c : After-put_item-b) → Puts (line₂ c.before.before.before.before.before.before.before.before.before.before.before.before.before) c.put_item-a.result c.put_item-a.last.out c.put_item-b.result c.put_item-b.new.out
+put₂ : (c : After-put_item-b) → Puts (line₂ c.before.before.before.before.before.before.before.before.before.before.before.before.before) c.put_item-a.result c.put_item-a.new.out c.put_item-b.result c.put_item-b.new.out
 unfolding committed_line bytes
 put₂ c =
-    known_puts committed_line (sym c.committed_count.ensures) c.put_item-a.last.out c.put_item-a.result c.put_item-b.ensures
+    known_puts committed_line (sym c.committed_count.ensures) c.put_item-a.new.out c.put_item-a.result c.put_item-b.ensures
 
-put₃ : (c : After-put_clean-c) → Puts (line₃ c.before.before.before.before.before.before.before.before.before.before.before.before.before.before.before.before.before) c.put_item-b.result c.put_item-b.last.out c.put_clean-c.result c.put_clean-c.new.out
+put₃ : (c : After-put_clean-c) → Puts (line₃ c.before.before.before.before.before.before.before.before.before.before.before.before.before.before.before.before.before) c.put_item-b.result c.put_item-b.new.out c.put_clean-c.result c.put_clean-c.new.out
 put₃ c =
-    known_puts clean_line (sym c.requires.1) c.put_item-b.last.out c.put_item-b.result c.put_clean-c.ensures
+    known_puts clean_line (sym c.requires.1) c.put_item-b.new.out c.put_item-b.result c.put_clean-c.ensures
 
 pub put_item-a-requires : goal.put_item-a-requires
 unfolding first_lines header steps bytes
@@ -73,7 +73,7 @@ put_item-a-requires c = fits_first (line₁ c.before.before.before.before.before
 pub put_item-b-requires : goal.put_item-b-requires
 unfolding first_lines committed_line bytes
 put_item-b-requires c =
-    known_fits committed_line (sym c.committed_count.ensures) c.put_item-a.last.out c.put_item-a.result
+    known_fits committed_line (sym c.committed_count.ensures) c.put_item-a.new.out c.put_item-a.result
     (fits_second (line₁ c.before.before.before.before.before.before.before.before.before.before.before.before.before) (line₂ c.before.before.before.before.before.before.before.before.before.before.before.before.before) (line₃ c.before.before.before.before.before.before.before.before.before.before.before.before.before) (line₄ c.before.before.before.before.before.before.before.before.before.before.before.before.before) c.args.out.now 0 (all_fit c.before.before.before.before.before.before.before.before.before.before.before.before.before) (put₁ c.before.before.before.before.before.before.before))
 
 pub put_clean-c-requires : goal.put_clean-c-requires
@@ -92,4 +92,4 @@ pub returns : goal.returns
 unfolding first_lines
 returns c =
     four_put (line₁ c.before.before.before.before.before.before.before.before.before.before.before.before.before.before.before.before.before.before.before.before.before.before.before.before) (line₂ c.before.before.before.before.before.before.before.before.before.before.before.before.before.before.before.before.before.before.before.before.before.before.before.before) (line₃ c.before.before.before.before.before.before.before.before.before.before.before.before.before.before.before.before.before.before.before.before.before.before.before.before) (line₄ c.before.before.before.before.before.before.before.before.before.before.before.before.before.before.before.before.before.before.before.before.before.before.before.before) c.args.out.now 0 (all_fit c.before.before.before.before.before.before.before.before.before.before.before.before.before.before.before.before.before.before.before.before.before.before.before.before) (put₁ c.before.before.before.before.before.before.before.before.before.before.before.before.before.before.before.before.before.before) (put₂ c.before.before.before.before.before.before.before.before.before.before.before) (put₃ c.before.before.before.before.before.before.before)
-    (known_puts snapshot_line (sym c.requires.2) c.put_clean-c.last.out c.put_clean-c.result c.put_snapshot.ensures)
+    (known_puts snapshot_line (sym c.requires.2) c.put_clean-c.new.out c.put_clean-c.result c.put_snapshot.ensures)

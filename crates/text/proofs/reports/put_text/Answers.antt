@@ -35,19 +35,19 @@ sized = length-replicate {A = ℕ} step_entries 0
 
 -- what it answered
 abbrev Answers : After-read-answer → TextAnswer → Type 0
-Answers c r = ReadCall c.args.text.now buffer r c.read-answer.new.1.0
+Answers c r = ReadCall c.args.text.now buffer r c.read-answer.new.steps
 
 found : (c : In-Refused) → ReportOf c.args.text.now (refused_line c.in-Refused.number c.in-Refused.place)
 found c =
     refused_report c.args.text.now buffer sized (subst (Answers c.before.before) c.in-Refused.is c.read-answer.ensures)
 
-was : (c : In-Accepted) → Was c.args.text.now c.read-answer.new.1.0 c.in-Accepted.n
+was : (c : In-Accepted) → Was c.args.text.now c.read-answer.new.steps c.in-Accepted.n
 was c =
     was_read (subst (Answers c.before.before) c.in-Accepted.is c.read-answer.ensures)
 
 -- the steps that were read are in the buffer
-within : (c : In-Accepted) → 4 * c.in-Accepted.n ≤ length c.read-answer.new.1.0
-within c = omega (arith, (was c).few, c.read-answer.auto.1.0, sized)
+within : (c : In-Accepted) → 4 * c.in-Accepted.n ≤ length c.read-answer.new.steps
+within c = omega (arith, (was c).few, c.read-answer.auto.steps, sized)
 
 pub put_refused-requires : goal.put_refused-requires
 put_refused-requires c = omega (arith, report_fits (found c.before.before), c.requires)

@@ -14,9 +14,6 @@ use Rattle.text.proofs.reports.put_verdicts.Reads
 use Rattle.text.proofs.reports.put_verdicts.Goals as goal
 
 -- places on the way, by the names that the toolchain gives them
-abbrev After-conflict-1 : Type 0
-After-conflict-1 = Lts.After-conflict tie.the-claims Reads.Pre Reads.Post
-
 abbrev After-put_conflict-b : Type 0
 After-put_conflict-b = Lts.After-put_conflict tie.the-claims Reads.Pre Reads.Post
 
@@ -30,48 +27,48 @@ abbrev After-put_version-c : Type 0
 After-put_version-c = Lts.After-put_version tie.the-claims Reads.Pre Reads.Post
 
 -- the room behind what is put
-room₁ : (c : After-put_first-a) → c.put_first-a.result + 2 * most_long + most_exact ≤ length c.put_first-a.new.snapshot.1.1.0
-room₁ c = let s = (let d : After-conflict-1 = c.before.before.before.before in d.before.before.before) in let p = c.put_first-a in omega (arith, p.ensures.0, p.auto.1.1.1.0, first_fit s.args.log.now s.requires.0, s.requires.2)
+room₁ : (c : After-put_first-a) → c.put_first-a.result + 2 * most_long + most_exact ≤ length c.put_first-a.new.out
+room₁ c = let s = c in let p = c.put_first-a in omega (arith, p.ensures.0, p.auto.out, first_fit s.args.log.now s.requires.0, s.requires.2)
 
-room₂ : (c : After-put_conflict-b) → c.put_conflict-b.result + most_long + most_exact ≤ length c.put_conflict-b.new.out.1.0
-room₂ c = let p = c.put_conflict-b in omega (arith, p.ensures.2, p.ensures.3.0, p.auto.1.1.0, room₁ c.before.before.before.before)
+room₂ : (c : After-put_conflict-b) → c.put_conflict-b.result + most_long + most_exact ≤ length c.put_conflict-b.new.out
+room₂ c = let p = c.put_conflict-b in omega (arith, p.ensures.2, p.ensures.3.0, p.auto.out, room₁ c.before.before.before.before)
 
-room₃ : (c : After-put_version-c) → c.put_version-c.result + most_exact ≤ length c.put_version-c.new.out.1.0
-room₃ c = let p = c.put_version-c in omega (arith, p.ensures.2, p.ensures.3.0, p.auto.1.1.0, room₂ c.before.before.before.before)
+room₃ : (c : After-put_version-c) → c.put_version-c.result + most_exact ≤ length c.put_version-c.new.out
+room₃ c = let p = c.put_version-c in omega (arith, p.ensures.2, p.ensures.3.0, p.auto.out, room₂ c.before.before.before.before)
 
 pub put_first-a-requires : goal.put_first-a-requires
-put_first-a-requires c = let s = (let d : After-conflict-1 = c.before.before.before in d.before.before.before) in (s.requires.0, s.requires.1.clean_is, s.requires.1.snapshot_is, s.requires.2)
+put_first-a-requires c = let s = c in (s.requires.0, s.requires.1.clean_is, s.requires.1.snapshot_is, s.requires.2)
 
 pub put_conflict-b-requires : goal.put_conflict-b-requires
 put_conflict-b-requires c =
-    let s = (let d : After-conflict-1 = c.before.before.before.before in d.before.before.before) in
+    let s = c in
     (s.requires.0, s.requires.1.conflict_is, omega (arith, room₁ c.before.before.before.before))
 
 pub put_version-c-requires : goal.put_version-c-requires
 put_version-c-requires c =
-    let s = (let d : After-conflict-1 = c.before.before.before.before.before.before.before.before in d.before.before.before) in
+    let s = c in
     (s.requires.0, s.requires.1.version_is, omega (arith, room₂ c.before.before.before.before))
 
 pub put_exact-requires : goal.put_exact-requires
 put_exact-requires c =
-    let s = (let d : After-conflict-1 = c.before.before.before.before.before.before.before.before.before.before.before.before in d.before.before.before) in
+    let s = c in
     (s.requires.0, s.requires.1.exact_is, room₃ c.before.before.before.before)
 
 -- the whole report
 abbrev whole : After-put_exact → List ℕ
 whole c =
-    first_lines (let d : After-conflict-1 = c.before.before.before.before.before.before.before.before in d.before.before.before).args.log.now ++ c.put_conflict-b.ensures.0 ++ c.put_version-c.ensures.0 ++ c.put_exact.ensures.0
+    first_lines c.args.log.now ++ c.put_conflict-b.ensures.0 ++ c.put_version-c.ensures.0 ++ c.put_exact.ensures.0
 
-whole_report : (c : After-put_exact) → LogReport (let d : After-conflict-1 = c.before.before.before.before.before.before.before.before.before.before.before.before.before.before.before.before in d.before.before.before).args.log.now (whole c)
+whole_report : (c : After-put_exact) → LogReport c.args.log.now (whole c)
 whole_report c =
-    judged (let d : After-conflict-1 = c.before.before.before.before.before.before.before.before in d.before.before.before).requires.0 c.put_conflict-b.ensures.1 c.put_version-c.ensures.1 c.put_exact.ensures.1
+    judged c.requires.0 c.put_conflict-b.ensures.1 c.put_version-c.ensures.1 c.put_exact.ensures.1
 
 whole_fits : (c : After-put_exact) → length (whole c) ≤ report_bytes
 whole_fits c = log_report_fits (whole_report c)
 
 pub returns : goal.returns
 returns c =
-    let s = (let d : After-conflict-1 = c.before.before.before.before in d.before.before.before) in (
+    let s = c in (
       whole c.before.before.before,
       whole_report c.before.before.before,
       whole_fits c.before.before.before,

@@ -9,10 +9,10 @@ returns-then-out-ne-REPORT c = wrong_size c.args.text.now c.args.out.now c.if-ou
 pub clear_bytes_from-requires : goal.clear_bytes_from-requires
 clear_bytes_from-requires c =
     let p = c.put_text-n in
-    omega (arith, p.ensures.2, p.ensures.3.0, p.auto.1.0, c.if-out-ne-REPORT.false)
+    omega (arith, p.ensures.2, p.ensures.3.0, p.auto.out, c.if-out-ne-REPORT.false)
 
 pub returns : goal.returns
 returns c =
     let p = c.put_text-n in
-    reported c.args.text.now c.args.out.now p.ensures.0 p.new.1.0 _ p.result
-    c.if-out-ne-REPORT.false p.ensures.1 p.ensures.3 p.auto.1.0 c.clear_bytes_from.ensures
+    reported c.args.text.now c.args.out.now p.ensures.0 p.new.out _ p.result
+    c.if-out-ne-REPORT.false p.ensures.1 p.ensures.3 p.auto.out c.clear_bytes_from.ensures

@@ -65,11 +65,11 @@ put₁ : (c : After-put_op-a) → Leads (part₁ c.before.before.before.before.b
 unfolding kind
 put₁ c = c.put_op-a.ensures
 
-put₂ : (c : After-put_small-b) → Leads (part₂ c.before.before.before.before.before.before.before.before.before.before.before.before) c.put_op-a.result c.put_op-a.last.out c.put_small-b.result c.put_small-b.new.out
+put₂ : (c : After-put_small-b) → Leads (part₂ c.before.before.before.before.before.before.before.before.before.before.before.before) c.put_op-a.result c.put_op-a.new.out c.put_small-b.result c.put_small-b.new.out
 unfolding tx bytes
 put₂ c = c.put_small-b.ensures
 
-put₃ : (c : After-put_small-c) → Leads (part₃ c.before.before.before.before.before.before.before.before.before.before.before.before.before.before.before.before.before.before.before) c.put_small-b.result c.put_small-b.last.out c.put_small-c.result c.put_small-c.new.out
+put₃ : (c : After-put_small-c) → Leads (part₃ c.before.before.before.before.before.before.before.before.before.before.before.before.before.before.before.before.before.before.before) c.put_small-b.result c.put_small-b.new.out c.put_small-c.result c.put_small-c.new.out
 unfolding obj bytes
 put₃ c = c.put_small-c.ensures
 

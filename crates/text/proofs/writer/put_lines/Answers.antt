@@ -60,7 +60,7 @@ loop-i-preserved c =
     let i = c.loop-i.i in
     let log = c.args.log.now in (
       omega (arith, below c.before.before.before.before.before.before),
-      subst (λ (w : List ℕ). Leads w c.args.at c.args.out.now p.result p.new.0) (sym (lines_more i log))
+      subst (λ (w : List ℕ). Leads w c.args.at c.args.out.now p.result p.new.out) (sym (lines_more i log))
           (both_lead (lines i log) (line_of log i) c.args.out.now c.args.at c.loop-i.invariant.1 p.ensures),
     )
 

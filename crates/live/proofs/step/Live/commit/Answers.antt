@@ -17,7 +17,7 @@ pub give_back-requires : goal.give_back-requires
 give_back-requires c =
     let p = c.requires in
     let size = settled_sized p.0 c.settle.ensures refl in
-    (size.opened-1, size.rows-1, size.edges-1, p.2)
+    (size.opened, size.rows, size.edges, p.2)
 
 pub returns : goal.returns
 returns c =

@@ -1,0 +1,10 @@
+-- `krupovesh_redo` meets its contract: the number of the answer that the call gave.
+use Rattle.exports.specs.Packed.{packs}
+use Rattle.exports.proofs.Values.{fits, redo_short}
+use Rattle.exports.proofs.krupovesh_redo.Goals as goal
+
+pub pack_redo-requires : goal.pack_redo-requires
+pack_redo-requires c = fits (redo_short _ _ _ c.redo-answer.ensures)
+
+pub returns : goal.returns
+returns c = packs _ c.redo-answer.ensures c.pack_redo.ensures

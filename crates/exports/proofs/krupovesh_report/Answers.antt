@@ -1,0 +1,10 @@
+-- `krupovesh_report` meets its contract: the number of the answer that the call gave.
+use Rattle.exports.specs.Packed.{packs}
+use Rattle.exports.proofs.Values.{fits, report_short}
+use Rattle.exports.proofs.krupovesh_report.Goals as goal
+
+pub pack_text-requires : goal.pack_text-requires
+pack_text-requires c = fits (report_short _ c.report-answer.ensures)
+
+pub returns : goal.returns
+returns c = packs _ c.report-answer.ensures c.pack_text.ensures

@@ -1,0 +1,10 @@
+-- `krupovesh_write` meets its contract: the number of the answer that the call gave.
+use Rattle.exports.specs.Packed.{packs}
+use Rattle.exports.proofs.Values.{fits, write_short}
+use Rattle.exports.proofs.krupovesh_write.Goals as goal
+
+pub pack_text-requires : goal.pack_text-requires
+pack_text-requires c = fits (write_short _ _ c.write-answer.ensures)
+
+pub returns : goal.returns
+returns c = packs _ c.write-answer.ensures c.pack_text.ensures
