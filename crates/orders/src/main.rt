@@ -29,10 +29,8 @@ fn read_order(witness: &[u16], n: usize) -> [u16; Transaction::COUNT]
     ensures { result ≡ handed (read_off n witness.now) }
 {
     let mut order = [0u16; Transaction::COUNT];
-    let mut i: usize = 0;
-    while i < n {
+    for i in 0..n {
         order[i] = witness[3 * i];
-        i += 1;
     }
     order
 }
