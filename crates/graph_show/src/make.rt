@@ -75,14 +75,12 @@ pub(crate) fn parts(number: u64) -> Marks {
     if 4 < number {
         state = number - 4;
     }
-    let mut v = 1;
-    while v <= VERTICES {
+    for v in 1..=VERTICES {
         state = draw(state);
         if stands(number, state) {
             let more = graph::with_vertex(part, v);
             part = more;
         }
-        v += 1;
     }
     Marks { part, state }
 }
@@ -102,11 +100,9 @@ fn edges_from(m: &mut [u64; graph::ROWS], number: u64, start: u64, a: usize) -> 
     requires { 1 ≤ a }
 {
     let mut state = start;
-    let mut b = 1;
-    while b <= VERTICES {
+    for b in 1..=VERTICES {
         state = draw(state);
         graph::join(m, source(number, state, a, b), b);
-        b += 1;
     }
     state
 }
@@ -114,9 +110,7 @@ fn edges_from(m: &mut [u64; graph::ROWS], number: u64, start: u64, a: usize) -> 
 // Draws the edges in rows that have none.
 pub(crate) fn edges(m: &mut [u64; graph::ROWS], number: u64, start: u64) {
     let mut state = start;
-    let mut a = 1;
-    while a <= VERTICES {
+    for a in 1..=VERTICES {
         state = edges_from(m, number, state, a);
-        a += 1;
     }
 }

@@ -51,10 +51,8 @@ pub(crate) fn keep_steps(log: &[u16], marks: &[u8; Transaction::TABLE], kept: &m
     ensures { (result ≤ length kept.old) × (take result kept.new ≡ Kept·kept marks.now (steps log.now) log.now) }
 {
     let mut n = 0;
-    let mut i = 0;
-    while i < log.len() / 4 {
+    for i in 0..log.len() / 4 {
         n = keep_step(log, i, marks, kept, n);
-        i += 1;
     }
     n
 }

@@ -7,86 +7,90 @@ mod named;
 
 use crate::kept::keep_steps;
 use crate::named::mark_named;
-use input::{read_input, read_named};
-use libc::{STDERR_FILENO, STDOUT_FILENO};
-use output::print_refused;
+use input::{ARGUMENT, arg_count, read_input, read_named, say};
+use output::{ended, print_refused};
+use std::io;
+use std::rt::{Env, Runtime};
 use text::{Text, TextAnswer, read, write};
 use verdict::{Log, Transaction};
 
 // Prints the text of a log.
-fn print_text(log: &[u16]) {
+fn print_text(rt: &impl Print, log: &[u16]) -> io::Result<()> {
     let mut out = [0u8; Text::WRITTEN];
     let answer = write(log, &mut out);
     match answer {
-        TextAnswer::Refused(number, place) => print_refused(number, place),
-        TextAnswer::Accepted(n) => {
-            io::write_all(STDOUT_FILENO, &out[..n]);
-        }
+        TextAnswer::Refused(number, place) => print_refused(rt, number, place),
+        TextAnswer::Accepted(n) => rt.write_all(&out[..n]),
     }
 }
 
 // Prints what is kept of the log of a text.
-fn print_kept(text: &[u8], marks: &[u8; Transaction::TABLE]) {
+fn print_kept(rt: &impl Print, text: &[u8], marks: &[u8; Transaction::TABLE]) -> io::Result<()> {
     let mut steps = [0u16; 4 * Log::LIMIT];
     let mut kept = [0u16; 4 * Log::LIMIT];
     let answer = read(text, &mut steps);
     match answer {
-        TextAnswer::Refused(number, place) => print_refused(number, place),
+        TextAnswer::Refused(number, place) => print_refused(rt, number, place),
         TextAnswer::Accepted(n) => {
             let end = 4 * n;
             let m = keep_steps(&steps[..end], marks, &mut kept);
-            print_text(&kept[..m])
+            print_text(rt, &kept[..m])
         }
     }
 }
 
 // Prints what is kept of the log on standard input.
-fn print_input(marks: &[u8; Transaction::TABLE]) {
+fn print_input(rt: &impl Runtime, marks: &[u8; Transaction::TABLE]) -> io::Result<()> {
     let mut text = [0u8; Text::LIMIT + 1];
-    let got = read_input(&mut text);
+    let got = read_input(rt, &mut text);
     let n = got.bytes;
-    if !got.failed {
-        print_kept(&text[..n], marks);
+    if got.failed {
+        return Ok(());
     }
+    print_kept(rt, &text[..n], marks)
 }
 
 // Prints what is kept of the log in the file that an argument names.
-fn print_file(i: usize, marks: &[u8; Transaction::TABLE]) {
+fn print_file(rt: &impl Runtime, i: usize, marks: &[u8; Transaction::TABLE]) -> io::Result<()> {
     let mut text = [0u8; Text::LIMIT + 1];
-    let got = read_named(i, &mut text);
+    let got = read_named(rt, i, &mut text);
     let n = got.bytes;
-    if !got.failed {
-        print_kept(&text[..n], marks);
+    if got.failed {
+        return Ok(());
     }
+    print_kept(rt, &text[..n], marks)
 }
 
 // Marks the transactions that the first argument names. Whether it is such a list.
-fn mark_first(marks: &mut [u8; Transaction::TABLE]) -> bool {
-    let mut list = io::buffer();
-    let n = os::arg(1, &mut list);
-    if os::errno() != 0 {
-        return false;
+fn mark_first(rt: &impl Env, marks: &mut [u8; Transaction::TABLE]) -> bool {
+    let mut list = [0u8; ARGUMENT];
+    match rt.arg(1, &mut list) {
+        Ok(n) => mark_named(&list[..n], marks),
+        Err(_) => false,
     }
-    mark_named(&list[..n], marks)
 }
 
-fn main() {
-    let count = os::arg_count();
+// Prints what is kept of the log that the program is given.
+fn print_given(rt: &impl Runtime) -> io::Result<()> {
     let mut marks = [0u8; Transaction::TABLE];
-    if !mark_first(&mut marks) {
-        io::write_all(
-            STDERR_FILENO,
-            b"keep: name the transactions to keep, 1 to 128 with commas between, as in 1,3\n",
+    if !mark_first(rt, &mut marks) {
+        say(
+            rt,
+            "keep: name the transactions to keep, 1 to 128 with commas between, as in 1,3",
         );
-        return;
+        return Ok(());
     }
+    let count = arg_count(rt);
     if count < 3 {
-        print_input(&marks);
-        return;
+        return print_input(rt, &marks);
     }
     if 3 < count {
-        io::write_all(STDERR_FILENO, b"keep: one log at a time\n");
-        return;
+        say(rt, "keep: one log at a time");
+        return Ok(());
     }
-    print_file(2, &marks);
+    print_file(rt, 2, &marks)
+}
+
+fn main(rt: HostRuntime) -> io::Result<()> {
+    ended(print_given(&rt))
 }

@@ -6,7 +6,8 @@ use Prim.Native.Nat.{ℕ, ◌*◌, ◌≤◌, ◌<◌}
 use lib.ListN.{length}
 use Rattle.words.specs.First.{later}
 use Rattle.words.proofs.Truth.{and→}
-use Rattle.verdict.specs.Limits.{transactions}
+use native.Mathlib.Omega.{arith}
+use Rattle.verdict.specs.Limits.{transactions, witness_buffer, order_entries}
 use Rattle.verdict.specs.Outcome.{Outcome, order}
 use Rattle.verdict.specs.Witness.{read_off, handed}
 use Rattle.verdict.specs.Replay.{explains}
@@ -29,6 +30,10 @@ known e f = e ∙ ap Judged f
 pub members_within : (refusal : Checked) {verdict : Outcome → Type 0} {work witness work' witness' : List ℕ} {answer : WitnessAnswer} {judged : Answer} {n : ℕ}
     → answer ≡ Judged judged → judged ≡ Order n → WitnessCall refusal verdict work witness answer work' witness' → 3 * n ≤ length witness'
 members_within refusal e f c = (call_order refusal (rw (known e f) at c)).room
+
+-- no more than an order may have
+pub few_members : (n : ℕ) (witness : List ℕ) → 3 * n ≤ length witness → length witness ≡ witness_buffer → n ≤ order_entries
+few_members n witness h e = omega (arith, h, e)
 
 -- an order that "next" brings explains
 explaining : {log v w : List ℕ} → Next transactions log v (order w) → explains transactions log w ≡ true

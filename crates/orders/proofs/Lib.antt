@@ -1,2 +1,3 @@
 -- What the program's proofs rest on beside verdict's theorems.
 pub mod Bringing
+pub mod Left

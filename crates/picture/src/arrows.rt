@@ -4,11 +4,11 @@ use crate::lanes::lane_of;
 use crate::page::{Page, across, down, few_arrows, labelled};
 use crate::steps::{NUMBERS, last_of, version_before};
 use crate::texts::entry;
-use libc::STDOUT_FILENO;
+use std::io;
 use verdict::{RW, Step, Transaction, WR, WW};
 
 // Why one transaction must come before another: the kind of the reason, and its object.
-#[derive(Drop)]
+#[derive(Clone, Copy)]
 struct Reason {
     first: u16,
     then: u16,
@@ -17,7 +17,7 @@ struct Reason {
 }
 
 // An arrow, by its ends on the page.
-#[derive(Drop)]
+#[derive(Clone, Copy)]
 struct Arrow {
     x1: u32,
     y1: u32,
@@ -93,93 +93,96 @@ fn before_half(a: u32, b: u32) -> u32 {
 }
 
 // Prints the line of an arrow. It leaves its lane straight down or up, and comes to the other one so, too.
-fn print_line(arrow: Arrow) {
+fn print_line(rt: &impl Print, arrow: Arrow) -> io::Result<()> {
     let near = quarter(arrow.y1, arrow.y2);
     let far = quarter(arrow.y2, arrow.y1);
     print_filled(
+        rt,
         b"<path class='arrow' marker-end='url(#head)' d='M% %C% % % %",
         &[arrow.x1, arrow.y1, arrow.x1, far, arrow.x2, near],
-    );
-    print_filled(b" % %'/>\n", &[arrow.x2, arrow.y2]);
+    )?;
+    print_filled(rt, b" % %'/>\n", &[arrow.x2, arrow.y2])
 }
 
 // Opens the sign that bears a reason.
-fn open_sign(page: Page, x: u32, y: u32) {
+fn open_sign(rt: &impl Print, page: Page, x: u32, y: u32) -> io::Result<()> {
     if labelled(page) {
-        print_filled(b"<g class='reason' transform='translate(%,%)'>", &[x, y]);
-        return;
+        return print_filled(
+            rt,
+            b"<g class='reason' transform='translate(%,%)'>",
+            &[x, y],
+        );
     }
     if few_arrows(page) {
-        print_filled(
+        return print_filled(
+            rt,
             b"<g class='reason' transform='translate(%,%) scale(1.2)'>",
             &[x, y],
         );
-        return;
     }
     print_filled(
+        rt,
         b"<g class='reason' transform='translate(%,%) scale(.6)'>",
         &[x, y],
-    );
+    )
 }
 
 // Opens it on the line of an arrow, nearer to its first end; where lanes are narrow not so near, since the source of a read stands there.
-fn open_reason(page: Page, arrow: Arrow) {
+fn open_reason(rt: &impl Print, page: Page, arrow: Arrow) -> io::Result<()> {
     if page.lanes <= 6 {
-        open_sign(
+        return open_sign(
+            rt,
             page,
             sixth(arrow.x1, arrow.x2),
             past_third(arrow.y1, arrow.y2),
         );
-        return;
     }
     open_sign(
+        rt,
         page,
         past_third(arrow.x1, arrow.x2),
         before_half(arrow.y1, arrow.y2),
-    );
+    )
 }
 
 // Prints the reason of an arrow.
-fn print_reason(page: Page, arrow: Arrow, reason: Reason) {
+fn print_reason(rt: &impl Print, page: Page, arrow: Arrow, reason: Reason) -> io::Result<()> {
     let kind = reason.kind;
-    open_reason(page, arrow);
-    io::write_all(
-        STDOUT_FILENO,
-        b"<rect x='-23' y='-10' width='46' height='20' rx='4'/>",
-    );
+    open_reason(rt, page, arrow)?;
+    rt.write_all(b"<rect x='-23' y='-10' width='46' height='20' rx='4'/>")?;
     match kind {
-        WW => print_filled(b"<text y='5'>ww:%</text></g>\n", &[reason.obj as u32]),
-        WR => print_filled(b"<text y='5'>wr:%</text></g>\n", &[reason.obj as u32]),
-        _ => print_filled(b"<text y='5'>rw:%</text></g>\n", &[reason.obj as u32]),
+        WW => print_filled(rt, b"<text y='5'>ww:%</text></g>\n", &[reason.obj as u32]),
+        WR => print_filled(rt, b"<text y='5'>wr:%</text></g>\n", &[reason.obj as u32]),
+        _ => print_filled(rt, b"<text y='5'>rw:%</text></g>\n", &[reason.obj as u32]),
     }
 }
 
 // Prints the lines of a cycle's arrows.
 pub(crate) fn print_arrows(
+    rt: &impl Print,
     page: Page,
     log: &[u16; NUMBERS],
     lanes: &[u16; Transaction::TABLE],
     witness: &[u16; Transaction::WITNESS],
-) {
-    let mut i: u16 = 0;
-    while i < page.cycle {
+) -> io::Result<()> {
+    for i in 0..page.cycle {
         let reason = reason_at(witness, i, page.cycle);
-        print_line(arrow_of(page, log, lanes, reason));
-        i += 1;
+        print_line(rt, arrow_of(page, log, lanes, reason))?;
     }
+    Ok(())
 }
 
 // Prints the reasons of a cycle's arrows.
 pub(crate) fn print_reasons(
+    rt: &impl Print,
     page: Page,
     log: &[u16; NUMBERS],
     lanes: &[u16; Transaction::TABLE],
     witness: &[u16; Transaction::WITNESS],
-) {
-    let mut i: u16 = 0;
-    while i < page.cycle {
+) -> io::Result<()> {
+    for i in 0..page.cycle {
         let reason = reason_at(witness, i, page.cycle);
-        print_reason(page, arrow_of(page, log, lanes, reason), reason);
-        i += 1;
+        print_reason(rt, page, arrow_of(page, log, lanes, reason), reason)?;
     }
+    Ok(())
 }

@@ -5,7 +5,7 @@ use crate::fill::print_filled;
 use crate::marks::print_mark;
 use crate::page::{Page, across, down, number_across};
 use crate::steps::{MOST, NUMBERS, aborted, end_of, last_of, step_at};
-use libc::STDOUT_FILENO;
+use std::io;
 use verdict::{Step, Transaction};
 
 // Marks the transaction of a step.
@@ -17,11 +17,9 @@ fn mark_one(lanes: &mut [u16; Transaction::TABLE], tx: u16) {
 
 // Marks the transactions that have a step.
 fn mark_all(log: &[u16; NUMBERS], lanes: &mut [u16; Transaction::TABLE], steps: u16) {
-    let mut i: u16 = 0;
-    while i < steps {
+    for i in 0..steps {
         let step = step_at(log, i);
         mark_one(lanes, step.tx);
-        i += 1;
     }
 }
 
@@ -48,10 +46,8 @@ pub(crate) fn give_lanes(
 ) -> u16 {
     mark_all(log, lanes, steps);
     let mut given = 0;
-    let mut tx: u16 = 1;
-    while tx <= Transaction::LIMIT {
+    for tx in 1..=Transaction::LIMIT {
         given = give(lanes, tx, given);
-        tx += 1;
     }
     given
 }
@@ -65,45 +61,60 @@ pub(crate) fn lane_of(lanes: &[u16; Transaction::TABLE], tx: u16) -> u16 {
 }
 
 // Opens a lane: its number, and a line from its begin to its end, which is dashed and grey where the transaction has done nothing.
-fn open_lane(page: Page, log: &[u16; NUMBERS], tx: u16, lane: u16) {
+fn open_lane(
+    rt: &impl Print,
+    page: Page,
+    log: &[u16; NUMBERS],
+    tx: u16,
+    lane: u16,
+) -> io::Result<()> {
     let y = down(page, lane);
     let from = across(page, last_of(log, Step::BEGIN, tx, 0, 0));
     let to = across(page, end_of(log, tx));
     if aborted(log, tx) {
-        print_filled(
+        return print_filled(
+            rt,
             b"<g class='lane gone' transform='translate(0,%)'>\n<text class='number' x='%' dy='.35em'>%</text>\n<path class='run' d='M% 0H%' stroke-dasharray='7 5'/>\n",
             &[y, number_across(page), tx as u32, from, to],
         );
-        return;
     }
     print_filled(
+        rt,
         b"<g class='lane' transform='translate(0,%)'>\n<text class='number' x='%' dy='.35em'>%</text>\n<path class='run' d='M% 0H%'/>\n",
         &[y, number_across(page), tx as u32, from, to],
-    );
+    )
 }
 
 // Prints a lane with the marks of its steps.
-fn print_lane(page: Page, log: &[u16; NUMBERS], tx: u16, lane: u16) {
-    open_lane(page, log, tx, lane);
-    let mut i: u16 = 0;
-    while i < MOST {
+fn print_lane(
+    rt: &impl Print,
+    page: Page,
+    log: &[u16; NUMBERS],
+    tx: u16,
+    lane: u16,
+) -> io::Result<()> {
+    open_lane(rt, page, log, tx, lane)?;
+    for i in 0..MOST {
         let step = step_at(log, i);
         if step.tx == tx {
-            print_mark(page, i, step);
+            print_mark(rt, page, i, step)?;
         }
-        i += 1;
     }
-    io::write_all(STDOUT_FILENO, b"</g>\n");
+    rt.write_all(b"</g>\n")
 }
 
 // Prints the lanes.
-pub(crate) fn print_lanes(page: Page, log: &[u16; NUMBERS], lanes: &[u16; Transaction::TABLE]) {
-    let mut tx: u16 = 1;
-    while tx <= Transaction::LIMIT {
+pub(crate) fn print_lanes(
+    rt: &impl Print,
+    page: Page,
+    log: &[u16; NUMBERS],
+    lanes: &[u16; Transaction::TABLE],
+) -> io::Result<()> {
+    for tx in 1..=Transaction::LIMIT {
         let lane = lane_of(lanes, tx);
         if 0 < lane {
-            print_lane(page, log, tx, lane);
+            print_lane(rt, page, log, tx, lane)?;
         }
-        tx += 1;
     }
+    Ok(())
 }

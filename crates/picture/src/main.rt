@@ -23,9 +23,10 @@ use crate::steps::{MOST, NUMBERS, step_at};
 use crate::texts::{
     print_cycle, print_fault, print_numbers, print_order, print_order_title, print_unclean_title,
 };
-use input::{read_input, read_named};
-use libc::{STDERR_FILENO, STDOUT_FILENO};
-use output::print_refused;
+use input::{arg_count, read_input, read_named, say};
+use output::{ended, print_refused};
+use std::io;
+use std::rt::Runtime;
 use text::{Text, TextAnswer, read};
 use verdict::answers::{Answer, WitnessAnswer};
 use verdict::{Log, Transaction, fault_step, version};
@@ -73,70 +74,90 @@ fn show(answer: Answer) -> Shown {
 }
 
 // Prints the title.
-fn print_title(page: Page, fault: u16, witness: &[u16; Transaction::WITNESS]) {
+fn print_title(
+    rt: &impl Print,
+    page: Page,
+    fault: u16,
+    witness: &[u16; Transaction::WITNESS],
+) -> io::Result<()> {
     if fault < MOST {
-        print_unclean_title(page, fault);
-        return;
+        return print_unclean_title(rt, page, fault);
     }
     if 0 < page.cycle {
-        print_cycle(page, witness);
-        return;
+        return print_cycle(rt, page, witness);
     }
-    print_order_title(page);
+    print_order_title(rt, page)
 }
 
 // Prints the ring of a fault, if there is one.
-fn print_ring(page: Page, log: &[u16; NUMBERS], lanes: &[u16; Transaction::TABLE], fault: u16) {
+fn print_ring(
+    rt: &impl Print,
+    page: Page,
+    log: &[u16; NUMBERS],
+    lanes: &[u16; Transaction::TABLE],
+    fault: u16,
+) -> io::Result<()> {
     if fault < MOST {
         let step = step_at(log, fault);
-        print_fault(page, fault, lane_of(lanes, step.tx));
+        print_fault(rt, page, fault, lane_of(lanes, step.tx))?;
     }
+    Ok(())
 }
 
 // Prints the lanes with all that stands on them.
 fn print_body(
+    rt: &impl Print,
     page: Page,
     log: &[u16; NUMBERS],
     lanes: &[u16; Transaction::TABLE],
     fault: u16,
     witness: &[u16; Transaction::WITNESS],
-) {
-    print_filled(b"<g transform='translate(0,%)'>\n", &[top(page)]);
-    print_numbers(page);
-    print_arrows(page, log, lanes, witness);
-    print_lanes(page, log, lanes);
-    print_reasons(page, log, lanes, witness);
-    print_ring(page, log, lanes, fault);
-    io::write_all(STDOUT_FILENO, b"</g>\n");
+) -> io::Result<()> {
+    print_filled(rt, b"<g transform='translate(0,%)'>\n", &[top(page)])?;
+    print_numbers(rt, page)?;
+    print_arrows(rt, page, log, lanes, witness)?;
+    print_lanes(rt, page, log, lanes)?;
+    print_reasons(rt, page, log, lanes, witness)?;
+    print_ring(rt, page, log, lanes, fault)?;
+    rt.write_all(b"</g>\n")
 }
 
 // Says what the verdict means.
-fn print_meaning(page: Page, fault: u16) {
+fn print_meaning(rt: &impl Print, page: Page, fault: u16) -> io::Result<()> {
     if fault < MOST {
-        print_unclean_meaning();
-        return;
+        return print_unclean_meaning(rt);
     }
     if 0 < page.cycle {
-        print_cycle_meaning();
-        return;
+        return print_cycle_meaning(rt);
     }
-    print_order_meaning();
+    print_order_meaning(rt)
 }
 
 // Prints what stands below the lanes: the order, where no cycle and no fault is shown, and what everything means.
-fn print_foot(page: Page, fault: u16, witness: &[u16; Transaction::WITNESS]) {
-    print_filled(b"<g transform='translate(0,%)'>\n", &[bottom(page)]);
+fn print_foot(
+    rt: &impl Print,
+    page: Page,
+    fault: u16,
+    witness: &[u16; Transaction::WITNESS],
+) -> io::Result<()> {
+    print_filled(rt, b"<g transform='translate(0,%)'>\n", &[bottom(page)])?;
     if fault == MOST && page.cycle == 0 {
-        print_order(page, witness);
+        print_order(rt, page, witness)?;
     }
-    open_legend(page);
-    print_marks_meaning();
-    print_meaning(page, fault);
-    io::write_all(STDOUT_FILENO, b"</g>\n</g>\n</svg>\n");
+    open_legend(rt, page)?;
+    print_marks_meaning(rt)?;
+    print_meaning(rt, page, fault)?;
+    rt.write_all(b"</g>\n</g>\n</svg>\n")
 }
 
 // Draws a log of so many steps, and what its verdict shows.
-fn draw(log: &[u16; NUMBERS], steps: u16, shown: Shown, witness: &[u16; Transaction::WITNESS]) {
+fn draw(
+    rt: &impl Print,
+    log: &[u16; NUMBERS],
+    steps: u16,
+    shown: Shown,
+    witness: &[u16; Transaction::WITNESS],
+) -> io::Result<()> {
     let mut lanes = [0u16; Transaction::TABLE];
     let page = Page {
         steps,
@@ -144,11 +165,11 @@ fn draw(log: &[u16; NUMBERS], steps: u16, shown: Shown, witness: &[u16; Transact
         cycle: shown.cycle,
         order: shown.order,
     };
-    open_picture(page);
-    print_style(page);
-    print_title(page, shown.fault, witness);
-    print_body(page, log, &lanes, shown.fault, witness);
-    print_foot(page, shown.fault, witness);
+    open_picture(rt, page)?;
+    print_style(rt, page)?;
+    print_title(rt, page, shown.fault, witness)?;
+    print_body(rt, page, log, &lanes, shown.fault, witness)?;
+    print_foot(rt, page, shown.fault, witness)
 }
 
 // The version verdict of a log.
@@ -159,61 +180,68 @@ fn judge(log: &[u16], witness: &mut [u16]) -> WitnessAnswer {
 
 // Draws a log of so many steps, if it is not turned away.
 fn print_judged(
+    rt: &impl Print,
     log: &[u16; NUMBERS],
     steps: u16,
     answer: WitnessAnswer,
     witness: &[u16; Transaction::WITNESS],
-) {
+) -> io::Result<()> {
     match answer {
-        WitnessAnswer::Refused(number, place) => print_refused(number, place),
-        WitnessAnswer::Judged(judged) => draw(log, steps, show(judged), witness),
+        WitnessAnswer::Refused(number, place) => print_refused(rt, number, place),
+        WitnessAnswer::Judged(judged) => draw(rt, log, steps, show(judged), witness),
     }
 }
 
 // Draws the log of a text.
-fn print_picture(text: &[u8]) {
+fn print_picture(rt: &impl Print, text: &[u8]) -> io::Result<()> {
     let mut steps = [0u16; NUMBERS];
     let mut witness = [0u16; Transaction::WITNESS];
     let answer = read(text, &mut steps);
     match answer {
-        TextAnswer::Refused(number, place) => print_refused(number, place),
+        TextAnswer::Refused(number, place) => print_refused(rt, number, place),
         TextAnswer::Accepted(n) => {
             let end = 4 * n;
             let verdict = judge(&steps[..end], &mut witness);
-            print_judged(&steps, small(n), verdict, &witness)
+            print_judged(rt, &steps, small(n), verdict, &witness)
         }
     }
 }
 
 // Draws the log on standard input.
-fn print_input() {
+fn print_input(rt: &impl Runtime) -> io::Result<()> {
     let mut text = [0u8; Text::LIMIT + 1];
-    let got = read_input(&mut text);
+    let got = read_input(rt, &mut text);
     let n = got.bytes;
-    if !got.failed {
-        print_picture(&text[..n]);
+    if got.failed {
+        return Ok(());
     }
+    print_picture(rt, &text[..n])
 }
 
 // Draws the log in the file that the first argument names.
-fn print_file() {
+fn print_file(rt: &impl Runtime) -> io::Result<()> {
     let mut text = [0u8; Text::LIMIT + 1];
-    let got = read_named(1, &mut text);
+    let got = read_named(rt, 1, &mut text);
     let n = got.bytes;
-    if !got.failed {
-        print_picture(&text[..n]);
+    if got.failed {
+        return Ok(());
     }
+    print_picture(rt, &text[..n])
 }
 
-fn main() {
-    let count = os::arg_count();
+// Draws the log that the program is given.
+fn print_given(rt: &impl Runtime) -> io::Result<()> {
+    let count = arg_count(rt);
     if count < 2 {
-        print_input();
-        return;
+        return print_input(rt);
     }
     if 2 < count {
-        io::write_all(STDERR_FILENO, b"picture: one log at a time\n");
-        return;
+        say(rt, "picture: one log at a time");
+        return Ok(());
     }
-    print_file();
+    print_file(rt)
+}
+
+fn main(rt: HostRuntime) -> io::Result<()> {
+    ended(print_given(&rt))
 }

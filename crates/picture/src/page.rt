@@ -2,7 +2,7 @@
 ghost use Rattle.std.specs.Prelude.{◌≤◌};
 
 // What is drawn: how many steps, lanes, members of a cycle and members of an order.
-#[derive(Drop)]
+#[derive(Clone, Copy)]
 pub(crate) struct Page {
     pub(crate) steps: u16,
     pub(crate) lanes: u16,

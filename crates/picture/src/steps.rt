@@ -43,12 +43,10 @@ fn same(a: Step, b: Step) -> bool {
 // Where a step stands in a log, the last time; MOST where it does not.
 pub(crate) fn last_such(log: &[u16; NUMBERS], step: Step) -> u16 {
     let mut found = MOST;
-    let mut i: u16 = 0;
-    while i < MOST {
+    for i in 0..MOST {
         if same(step_at(log, i), step) {
             found = i;
         }
-        i += 1;
     }
     found
 }
@@ -74,8 +72,7 @@ pub(crate) fn end_of(log: &[u16; NUMBERS], tx: u16) -> u16 {
 // The writer of an object's version that a transaction has replaced by its own: who committed last before it, of those that write the object.
 pub(crate) fn version_before(log: &[u16; NUMBERS], obj: u16, tx: u16) -> u16 {
     let mut writer = 0;
-    let mut i: u16 = 0;
-    while i < MOST {
+    for i in 0..MOST {
         let step = step_at(log, i);
         if step.kind == Step::COMMIT {
             if step.tx == tx {
@@ -85,7 +82,6 @@ pub(crate) fn version_before(log: &[u16; NUMBERS], obj: u16, tx: u16) -> u16 {
                 writer = step.tx;
             }
         }
-        i += 1;
     }
     writer
 }

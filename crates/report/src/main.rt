@@ -1,49 +1,57 @@
 // The program: prints the report of the text on standard input, or of each file named, under a line `file=NAME`.
 #![tactic(auto)]
 
-use input::{print_named, read_input, read_named};
-use libc::STDOUT_FILENO;
+use input::{arg_count, print_named, read_input, read_named};
+use output::ended;
+use std::io;
+use std::rt::Runtime;
 use text::{Text, TextAnswer, report};
 
 // Prints the report of a text.
-fn print_report(text: &[u8]) {
+fn print_report(rt: &impl Print, text: &[u8]) -> io::Result<()> {
     let mut out = [0u8; Text::REPORT];
     let answer = report(text, &mut out);
     if let TextAnswer::Accepted(n) = answer {
-        io::write_all(STDOUT_FILENO, &out[..n]);
+        rt.write_all(&out[..n])?;
     }
+    Ok(())
 }
 
 // Prints the report of standard input.
-fn print_input() {
+fn print_input(rt: &impl Runtime) -> io::Result<()> {
     let mut text = [0u8; Text::LIMIT + 1];
-    let got = read_input(&mut text);
+    let got = read_input(rt, &mut text);
     let n = got.bytes;
-    if !got.failed {
-        print_report(&text[..n]);
+    if got.failed {
+        return Ok(());
     }
+    print_report(rt, &text[..n])
 }
 
 // Prints the report of the file that an argument names.
-fn print_file(i: usize) {
+fn print_file(rt: &impl Runtime, i: usize) -> io::Result<()> {
     let mut text = [0u8; Text::LIMIT + 1];
-    let got = read_named(i, &mut text);
+    let got = read_named(rt, i, &mut text);
     let n = got.bytes;
-    if !got.failed {
-        print_named(i);
-        print_report(&text[..n]);
+    if got.failed {
+        return Ok(());
     }
+    print_named(rt, i)?;
+    print_report(rt, &text[..n])
 }
 
-fn main() {
-    let count = os::arg_count();
+// Prints the report of each text that the program is given.
+fn print_all(rt: &impl Runtime) -> io::Result<()> {
+    let count = arg_count(rt);
     if count < 2 {
-        print_input();
-        return;
+        return print_input(rt);
     }
-    let mut i = 1;
-    while i < count {
-        print_file(i);
-        i += 1;
+    for i in 1..count {
+        print_file(rt, i)?;
     }
+    Ok(())
+}
+
+fn main(rt: HostRuntime) -> io::Result<()> {
+    ended(print_all(&rt))
 }

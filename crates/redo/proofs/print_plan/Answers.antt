@@ -1,0 +1,12 @@
+-- The members of the proposal are within it.
+use mathlib.Core.Path.{sym}
+use lib.Seq.{length-take-le}
+use Rattle.redo.proofs.Members.{members_within}
+use Rattle.redo.proofs.print_plan.Goals as goal
+
+pub slice_bounds-members-end : goal.slice_bounds-members-end
+slice_bounds-members-end g c = members_within c.args.log.now c.in-Proposed.is c.redo-answer.ensures
+
+pub slice_bounds-print_numbers-end-in-Proposed : goal.slice_bounds-print_numbers-end-in-Proposed
+slice_bounds-print_numbers-end-in-Proposed g c =
+    sym (length-take-le _ _ (members_within c.args.log.now c.in-Proposed.is c.redo-answer.ensures))

@@ -1,0 +1,2 @@
+-- What is known of a report.
+pub mod Reports

@@ -1,0 +1,12 @@
+-- The report is within its buffer.
+use borrow.Author.Rules.{rules}
+use mathlib.Core.Path.{sym}
+use lib.Seq.{length-take-le}
+use Rattle.report.proofs.Reports.{report_within_buffer}
+use Rattle.report.proofs.print_report.Goals as goal
+
+pub slice_bounds-out-end : goal.slice_bounds-out-end
+slice_bounds-out-end g c = report_within_buffer c.in-Accepted.is (search rules) c.report-answer.ensures
+
+pub slice_bounds-write_all-end : goal.slice_bounds-write_all-end
+slice_bounds-write_all-end g c = sym (length-take-le _ _ (report_within_buffer c.in-Accepted.is (search rules) c.report-answer.ensures))
