@@ -6,9 +6,9 @@ use Rattle.words.proofs.Truth.{→upto, →not_upto, and_true, and_no_left, not_
 use Rattle.keep.specs.Kept.{marked}
 use Rattle.keep.proofs.kept.marked.Goals as goal
 
-pub returns-then-t-gt-LIMIT : goal.returns-then-t-gt-LIMIT
+pub returns-then-beyond : goal.returns-then-beyond
 unfolding marked
-returns-then-t-gt-LIMIT c = sym (and_no_left _ (→not_upto (omega arith)))
+returns-then-beyond c = sym (and_no_left _ (→not_upto (omega arith)))
 
 pub returns : goal.returns
 unfolding marked ◌is◌
