@@ -11,8 +11,8 @@ use lib.Pow.{pow_pos, pow-lt, pow_mono, ones_lt, shr-shr, shl_exact}
 use lib.Dec.{eqb}
 use lib.Bits.{bit_and, bit_or, and_step, or_step, and_shr, or_shr, and_mask, and_le_l, or_lt, or_disjoint, shifted_half, shifted_even}
 use lib.Count.{count_trailing_zeros, under, trailing_le}
-use Rattle.words.specs.Tests.{◌is◌, ◌below◌, ◌upto◌, ◌and◌, ◌or◌, fails, if◌then◌else◌, some, lowest}
-use Rattle.words.proofs.Truth.{decide, not_both, to_true, to_false, or→, →or_left, →or_right, and_no_right, same_test, below→, not_below→, →not_below, upto→, →upto, fails→, and→, →and, if_true, if_false, and_no_left, not_fails, some_same, is→, isnt→, →is, →isnt, →fails, →not_fails, →none, none→, lowest_at, lowest_none}
+use Rattle.words.specs.Tests.{◌is◌, ◌below◌, ◌upto◌, ◌and◌, ◌or◌, fails, provided◌then◌else◌, some, lowest}
+use Rattle.words.proofs.Truth.{decide, not_both, to_true, to_false, or→, →or_left, →or_right, and_no_right, same_test, below→, not_below→, →not_below, upto→, →upto, fails→, and→, →and, provided_true, provided_false, and_no_left, not_fails, is→, isnt→, →is, →isnt, →fails, →not_fails, →none, none→, lowest_at, lowest_none}
 use Rattle.bits.specs.Word.{marked, more, less}
 
 -- the lowest bit, and the others
@@ -39,7 +39,7 @@ none_from m x h l y = no_mark y ∙ sym (to_false _ (λ (q : (x upto y and marke
 
 pub less_past : (m x : ℕ) → m < 2 ^ 64 → 64 ≤ x → less m x ≡ m
 unfolding less
-less_past m x h l = if_false (m - 2 ^ x) m (no_mark_past 64 m x h l)
+less_past m x h l = provided_false (m - 2 ^ x) m (no_mark_past 64 m x h l)
 
 -- the bits of what a number is made of
 and_bit : (a b : ℕ) → (bit_and a b % 2 is 1) ≡ (a % 2 is 1 and b % 2 is 1)
@@ -197,12 +197,12 @@ module _ (k m x : ℕ) (h : m < 2 ^ k) (l : x < k) where
   unfolding more
   more_value = go (decide (marked m x))
     where
-      go : (marked m x ≡ true) ⊎ (marked m x ≡ false) → bit_or (1 * 2 ^ x) m ≡ (if marked m x then m else m + 2 ^ x)
+      go : (marked m x ≡ true) ⊎ (marked m x ≡ false) → bit_or (1 * 2 ^ x) m ≡ (provided marked m x then m else m + 2 ^ x)
       go (inl q) =
           same_marks k _ m (or_lt k (1 * 2 ^ x) m (power_lt k x l) h) h
           (λ y b. or_mark m x y ∙ same_test (λ w. ⊎_elim (kept q y) (λ e. e) (or→ w)) (λ w. →or_right (y is x) w))
-          ∙ sym (if_true m (m + 2 ^ x) q)
-      go (inr q) = added m q ∙ ap (λ (n : ℕ). n + m) (one-mul (2 ^ x)) ∙ add_comm (2 ^ x) m ∙ sym (if_false m (m + 2 ^ x) q)
+          ∙ sym (provided_true m (m + 2 ^ x) q)
+      go (inr q) = added m q ∙ ap (λ (n : ℕ). n + m) (one-mul (2 ^ x)) ∙ add_comm (2 ^ x) m ∙ sym (provided_false m (m + 2 ^ x) q)
 
   less_value : bit_and m ((2 ^ k - 1) - 1 * 2 ^ x) ≡ less m x
   unfolding less
@@ -217,18 +217,18 @@ module _ (k m x : ℕ) (h : m < 2 ^ k) (l : x < k) where
       gone : marked r x ≡ false
       gone = drop_mark k m x h l x ∙ and_no_right _ (→not_fails (→is refl))
 
-      go : (marked m x ≡ true) ⊎ (marked m x ≡ false) → r ≡ (if marked m x then m - 2 ^ x else m)
+      go : (marked m x ≡ true) ⊎ (marked m x ≡ false) → r ≡ (provided marked m x then m - 2 ^ x else m)
       go (inr q) =
           same_marks k r m r_lt h
           (λ y b. drop_mark k m x h l y ∙ same_test (λ w. (and→ w).0) (λ w. →and w (→fails (to_false _ (λ e. let z : y ≡ x = is→ e in not_both (rw z at w) q)))))
-          ∙ sym (if_false (m - 2 ^ x) m q)
+          ∙ sym (provided_false (m - 2 ^ x) m q)
       go (inl q) =
           let e : bit_or (1 * 2 ^ x) r ≡ m =
           same_marks k _ m (or_lt k (1 * 2 ^ x) r (power_lt k x l) r_lt) h
           (λ y b. or_mark r x y ∙ ap (λ (t : Bool). y is x or t) (drop_mark k m x h l y) ∙ same_test (λ w. ⊎_elim (kept q y) (λ (e : (marked m y and fails (y is x)) ≡ true). (and→ e).0) (or→ w)) (λ w. ⊎_elim (λ (e : (y is x) ≡ true). →or_left _ e) (λ (e : (y is x) ≡ false). →or_right _ (→and w (→fails e))) (decide (y is x))))
           in
           let f : r ≡ m - 2 ^ x = omega (arith, added r gone, one-mul (2 ^ x)) in
-          f ∙ sym (if_true (m - 2 ^ x) m q)
+          f ∙ sym (provided_true (m - 2 ^ x) m q)
 
 -- what is marked then, in a word of any width
 wide : (m x : ℕ) → m < 2 ^ suc (m + x)

@@ -4,7 +4,7 @@
 mod table;
 
 ghost use Rattle.std.specs.Prelude.{◌≡◌, ℕ};
-ghost use Rattle.words.specs.Tests.{◌below◌, ◌upto◌, ◌and◌, ◌or◌, fails, if◌then◌else◌, some, lowest};
+ghost use Rattle.words.specs.Tests.{◌below◌, ◌upto◌, ◌and◌, ◌or◌, fails, provided◌then◌else◌, some, lowest};
 ghost use Rattle.bits.specs.Word.{marked, more, less};
 
 pub use table::{marked_above, put_marked};
@@ -21,7 +21,7 @@ pub fn has_mark(m: u64, x: usize) -> bool
 
 // The marks with x marked too; there is no room for a number from 64 on.
 pub fn with_mark(m: u64, x: usize) -> u64
-    ensures { result ≡ (if x below 64 then more m x else m) }
+    ensures { result ≡ (provided x below 64 then more m x else m) }
 {
     if x < 64 {
         return (1 << x) | m;

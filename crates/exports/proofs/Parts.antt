@@ -1,10 +1,10 @@
 -- The parts that the header's macros take of a C call's number: they are the numbers of an answer that the call allows, and these tell the answer.
 use mathlib.Core.Path.{◌≡◌, refl, sym, ap, ◌∙◌}
 use mathlib.Core.List.{List}
-use Prim.Native.Nat.{ℕ, suc, ◌/◌, ◌%◌, ◌≤◌}
+use Prim.Native.Nat.{ℕ, suc, ◌/◌, ◌%◌}
 use native.Mathlib.Omega.{arith}
-use Rattle.words.specs.Tests.{◌is◌, if◌then◌else◌}
-use Rattle.words.proofs.Truth.{if_true, if_false, →is, →isnt}
+use Rattle.words.specs.Tests.{◌is◌, provided◌then◌else◌}
+use Rattle.words.proofs.Truth.{provided_false, →isnt}
 use Rattle.verdict.specs.Limits.{transactions, most_steps}
 use Rattle.verdict.specs.Snapshot.{snapshot_verdict}
 use Rattle.verdict.specs.Call.{turned_away, answered, CleanCall, SnapshotCall, ConflictCall, VersionCall, ExactCall, NextCall}
@@ -113,16 +113,16 @@ apart : {A : Type 0} (numbers : A → Numbers) (back : Numbers → A) → ((a : 
 apart numbers back h {a} {b} e = sym (h a) ∙ ap back e ∙ h b
 
 fault_back : Numbers → Fault
-fault_back n = if n.kind is 4 then Aborted n.first else if n.kind is 5 then Unfinal n.first else Own n.first
+fault_back n = provided n.kind is 4 then Aborted n.first else provided n.kind is 5 then Unfinal n.first else Own n.first
 
 pub clean_numbers_one : {a b : CleanAnswer} → clean_numbers a ≡ clean_numbers b → a ≡ b
-unfolding clean_numbers fault_numbers fault_back if◌then◌else◌ ◌is◌
+unfolding clean_numbers fault_numbers fault_back provided◌then◌else◌ ◌is◌
 clean_numbers_one = apart clean_numbers back told
   where
     back : Numbers → CleanAnswer
     back n =
-        if n.kind is 0 then clean_answer.Refused n.first n.second
-        else if n.kind is 7 then clean_answer.Judged cleanness.Yes else clean_answer.Judged (cleanness.Unclean (fault_back n))
+        provided n.kind is 0 then clean_answer.Refused n.first n.second
+        else provided n.kind is 7 then clean_answer.Judged cleanness.Yes else clean_answer.Judged (cleanness.Unclean (fault_back n))
 
     told : (a : CleanAnswer) → back (clean_numbers a) ≡ a
     told (clean_answer.Refused n p) = refl
@@ -145,23 +145,23 @@ snapshot_named log work (answered v e j x y) k w h =
     upto_named {n = most_steps} {m = suc transactions} (rw z at (snapshot_few log (else_try→ (sym e)).1))
 
 writer_back : Numbers → Writer
-writer_back n = if n.second is 0 then Store else if n.third is 0 then Reader n.second else Committed n.second n.third
+writer_back n = provided n.second is 0 then Store else provided n.third is 0 then Reader n.second else Committed n.second n.third
 
 writer_told : {n m : ℕ} (k : ℕ) {w : Writer} → WriterUpto n m w → writer_back (read_numbers k w) ≡ w
-unfolding read_numbers writer_back if◌then◌else◌ ◌is◌
+unfolding read_numbers writer_back provided◌then◌else◌ ◌is◌
 writer_told k store_fine = refl
-writer_told k (committed_upto {t} {s} o h p i) = if_false _ _ (→isnt {m = t} {n = 0} (λ z. omega (arith, z, o))) ∙ if_false _ _ (→isnt {m = s} {n = 0} (λ z. omega (arith, z, p)))
-writer_told k (reader_upto {t} o h) = if_false _ _ (→isnt {m = t} {n = 0} (λ z. omega (arith, z, o)))
+writer_told k (committed_upto {t} {s} o h p i) = provided_false _ _ (→isnt {m = t} {n = 0} (λ z. omega (arith, z, o))) ∙ provided_false _ _ (→isnt {m = s} {n = 0} (λ z. omega (arith, z, p)))
+writer_told k (reader_upto {t} o h) = provided_false _ _ (→isnt {m = t} {n = 0} (λ z. omega (arith, z, o)))
 
 pub snapshot_numbers_one : {a b : SnapshotAnswer} → Named a → Named b → snapshot_numbers a ≡ snapshot_numbers b → a ≡ b
-unfolding snapshot_numbers read_numbers if◌then◌else◌ ◌is◌
+unfolding snapshot_numbers read_numbers provided◌then◌else◌ ◌is◌
 snapshot_numbers_one {a} {b} f g e = sym (told a f) ∙ ap back e ∙ told b g
   where
     back : Numbers → SnapshotAnswer
     back n =
-        if n.kind is 0 then snapshot_answer.Refused n.first n.second
-        else if n.kind is 7 then snapshot_answer.Judged snapshot.Yes
-        else if n.kind is 8 then snapshot_answer.Judged (snapshot.Read n.first (writer_back n)) else snapshot_answer.Judged (snapshot.Write n.first n.second)
+        provided n.kind is 0 then snapshot_answer.Refused n.first n.second
+        else provided n.kind is 7 then snapshot_answer.Judged snapshot.Yes
+        else provided n.kind is 8 then snapshot_answer.Judged (snapshot.Read n.first (writer_back n)) else snapshot_answer.Judged (snapshot.Write n.first n.second)
 
     -- a wrong read is told by its kind, its step and its writer
     read_told : (k : ℕ) (w : Writer) → back (read_numbers k w) ≡ snapshot_answer.Judged (snapshot.Read k (writer_back (read_numbers k w)))
@@ -176,15 +176,15 @@ snapshot_numbers_one {a} {b} f g e = sym (told a f) ∙ ap back e ∙ told b g
     told (snapshot_answer.Judged (snapshot.Write k t)) f = refl
 
 pub witness_numbers_one : {a b : WitnessAnswer} → witness_numbers a ≡ witness_numbers b → a ≡ b
-unfolding witness_numbers fault_numbers fault_back if◌then◌else◌ ◌is◌
+unfolding witness_numbers fault_numbers fault_back provided◌then◌else◌ ◌is◌
 witness_numbers_one = apart witness_numbers back told
   where
     back : Numbers → WitnessAnswer
     back n =
-        if n.kind is 0 then witness_answer.Refused n.first n.second
-        else if n.kind is 1 then witness_answer.Judged (answer.Order n.first)
-        else if n.kind is 2 then witness_answer.Judged (answer.Cycle n.first)
-        else if n.kind is 3 then witness_answer.Judged answer.None else witness_answer.Judged (answer.Unclean (fault_back n))
+        provided n.kind is 0 then witness_answer.Refused n.first n.second
+        else provided n.kind is 1 then witness_answer.Judged (answer.Order n.first)
+        else provided n.kind is 2 then witness_answer.Judged (answer.Cycle n.first)
+        else provided n.kind is 3 then witness_answer.Judged answer.None else witness_answer.Judged (answer.Unclean (fault_back n))
 
     told : (a : WitnessAnswer) → back (witness_numbers a) ≡ a
     told (witness_answer.Refused n p) = refl
@@ -196,33 +196,33 @@ witness_numbers_one = apart witness_numbers back told
     told (witness_answer.Judged (answer.Unclean (Unfinal k))) = refl
 
 pub text_numbers_one : {a b : TextAnswer} → text_numbers a ≡ text_numbers b → a ≡ b
-unfolding text_numbers if◌then◌else◌ ◌is◌
+unfolding text_numbers provided◌then◌else◌ ◌is◌
 text_numbers_one = apart text_numbers back told
   where
     back : Numbers → TextAnswer
-    back n = if n.kind is 0 then text_answer.Refused n.first n.second else text_answer.Accepted n.first
+    back n = provided n.kind is 0 then text_answer.Refused n.first n.second else text_answer.Accepted n.first
 
     told : (a : TextAnswer) → back (text_numbers a) ≡ a
     told (text_answer.Refused n p) = refl
     told (text_answer.Accepted n) = refl
 
 pub live_numbers_one : {a b : LiveAnswer} → live_numbers a ≡ live_numbers b → a ≡ b
-unfolding live_numbers if◌then◌else◌ ◌is◌
+unfolding live_numbers provided◌then◌else◌ ◌is◌
 live_numbers_one = apart live_numbers back told
   where
     back : Numbers → LiveAnswer
-    back n = if n.kind is 0 then LiveAnswer.Refused n.first else LiveAnswer.Accepted
+    back n = provided n.kind is 0 then LiveAnswer.Refused n.first else LiveAnswer.Accepted
 
     told : (a : LiveAnswer) → back (live_numbers a) ≡ a
     told (LiveAnswer.Refused n) = refl
     told LiveAnswer.Accepted = refl
 
 pub accepts_numbers_one : {a b : AcceptsAnswer} → accepts_numbers a ≡ accepts_numbers b → a ≡ b
-unfolding accepts_numbers if◌then◌else◌ ◌is◌
+unfolding accepts_numbers provided◌then◌else◌ ◌is◌
 accepts_numbers_one = apart accepts_numbers back told
   where
     back : Numbers → AcceptsAnswer
-    back n = if n.kind is 0 then AcceptsAnswer.Refused n.first n.second else if n.kind is 7 then AcceptsAnswer.Judged Acceptance.Yes else AcceptsAnswer.Judged Acceptance.No
+    back n = provided n.kind is 0 then AcceptsAnswer.Refused n.first n.second else provided n.kind is 7 then AcceptsAnswer.Judged Acceptance.Yes else AcceptsAnswer.Judged Acceptance.No
 
     told : (a : AcceptsAnswer) → back (accepts_numbers a) ≡ a
     told (AcceptsAnswer.Refused n p) = refl
@@ -230,11 +230,11 @@ accepts_numbers_one = apart accepts_numbers back told
     told (AcceptsAnswer.Judged Acceptance.No) = refl
 
 pub redo_numbers_one : {a b : RedoAnswer} → redo_numbers a ≡ redo_numbers b → a ≡ b
-unfolding redo_numbers if◌then◌else◌ ◌is◌
+unfolding redo_numbers provided◌then◌else◌ ◌is◌
 redo_numbers_one = apart redo_numbers back told
   where
     back : Numbers → RedoAnswer
-    back n = if n.kind is 0 then RedoAnswer.Refused n.first n.second else RedoAnswer.Proposed n.first
+    back n = provided n.kind is 0 then RedoAnswer.Refused n.first n.second else RedoAnswer.Proposed n.first
 
     told : (a : RedoAnswer) → back (redo_numbers a) ≡ a
     told (RedoAnswer.Refused n p) = refl

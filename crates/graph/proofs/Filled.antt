@@ -1,6 +1,6 @@
 -- What stands after some turns of placing: what is placed goes before any first order of the rest.
 use mathlib.Core.Path.{◌≡◌, refl, sym, ap, ◌∙◌}
-use mathlib.Core.Bool.{Bool, true}
+use mathlib.Core.Bool.{Bool}
 use mathlib.Core.List.{List, [], ◌∷◌, ◌++◌, append-nil, append_assoc}
 use Prim.Native.Nat.{ℕ, ◌+◌, ◌≤◌, ◌<◌, ◌*◌}
 use native.Mathlib.Omega.{arith}
@@ -12,7 +12,7 @@ use Rattle.graph.specs.Matrix.{takes_part, joined, matrix_order}
 use Rattle.graph.specs.Inner.Peel.{may_begin, apart, unmarked}
 use Rattle.graph.specs.Inner.Laying.{laid, Places}
 use Rattle.words.proofs.Truth.{not_both, to_false, →none}
-use Rattle.graph.proofs.Peel.{free→, apart→}
+use Rattle.graph.proofs.Peel.{free→}
 use Rattle.graph.proofs.Marks.{size_unmarked, part→, ends, no_loop, joined_apart, order_without}
 use Rattle.graph.proofs.Greedy.{cycle_apart, first_none, first_next, stuck}
 use Rattle.graph.proofs.Begins.{lowest→, none_begins, lowest_less}

@@ -1,13 +1,13 @@
 -- Walks over a set of vertices, the lowest first: what is gathered of their edges, and which of them has one.
 use mathlib.Core.Path.{◌≡◌, refl, sym, ap, ◌∙◌}
 use mathlib.Core.Bool.{Bool, true, false}
-use mathlib.Core.Logic.{◌⊎◌, inl, inr, ⊎_elim}
+use mathlib.Core.Logic.{⊎_elim}
 use mathlib.Core.List.{List}
-use Prim.Native.Nat.{ℕ, suc, ◌+◌, ◌*◌, ◌≤◌, ◌<◌}
+use Prim.Native.Nat.{ℕ, ◌+◌, ◌≤◌, ◌<◌}
 use native.Mathlib.Omega.{arith}
 use lib.ListN.{length, replicate}
 use Rattle.words.specs.Tests.{◌is◌, ◌below◌, ◌upto◌, ◌and◌, ◌or◌, some, count, lowest}
-use Rattle.words.proofs.Truth.{decide, not_both, to_false, same_test, and→, →and, and_no_left, or→, →or_left, →or_right, or_false, or_no, is→, isnt→, →is, below→, →below, upto→, →upto, some→, →some, none→, →none, some_next, some_same, lowest_is, lowest_at, lowest_none, below_lowest}
+use Rattle.words.proofs.Truth.{decide, not_both, to_false, same_test, and→, →and, and_no_left, or→, →or_left, →or_right, or_false, or_no, is→, isnt→, below→, →below, upto→, →upto, some→, →some, none→, →none, some_next, lowest_is, lowest_at, lowest_none, below_lowest}
 use Rattle.words.proofs.From.{lowest_same}
 use Rattle.graph.specs.Matrix.{takes_part}
 use Rattle.graph.specs.Inner.Peel.{without, unmarked}

@@ -3,19 +3,19 @@ use mathlib.Core.Path.{◌≡◌, refl, sym, ap, subst, ◌∙◌}
 use mathlib.Core.Bool.{Bool, true, false}
 use mathlib.Core.Logic.{◌⊎◌, inl, inr}
 use mathlib.Core.List.{List, [], ◌∷◌}
-use Prim.Native.Nat.{ℕ, suc, ◌+◌, ◌-◌, ◌*◌, ◌/◌, ◌%◌, ◌^◌, ◌≤◌, ◌<◌}
+use Prim.Native.Nat.{ℕ, ◌+◌, ◌-◌, ◌*◌, ◌/◌, ◌%◌, ◌^◌, ◌≤◌, ◌<◌}
 use native.Mathlib.Omega.{arith}
 use lib.ListN.{length, get_or, set, length-set, replicate}
 use lib.Seq.{get_or-set_same, get_or-set_other, ext_get_or}
-use Rattle.words.specs.Tests.{◌is◌, ◌upto◌, ◌and◌, ◌or◌, fails, if◌then◌else◌}
-use Rattle.words.proofs.Truth.{decide, not_both, to_false, same_test, and→, →and, and_true, and_no_left, or_no, is→, →is, isnt→, upto→, →upto, if_true, if_false}
+use Rattle.words.specs.Tests.{◌is◌, ◌upto◌, ◌and◌, ◌or◌, fails, provided◌then◌else◌}
+use Rattle.words.proofs.Truth.{decide, not_both, to_false, same_test, and→, →and, and_true, and_no_left, or_no, is→, →is, isnt→, upto→, →upto, provided_true, provided_false}
 use Rattle.bits.specs.Word.{marked, less}
 use Rattle.bits.specs.Run.{bit, without_bit}
 use Rattle.bits.proofs.Marks.{same_marks}
 use Rattle.bits.proofs.Runs.{bit_at, bit_less, no_bit}
 use Rattle.graph.specs.Matrix.{takes_part, in_row, Joins, Drops}
 use Rattle.graph.specs.Inner.Rows.{PutRow}
-use Rattle.graph.proofs.TwoWords.{no_vertex, by_bit, word_by_word, two_words}
+use Rattle.graph.proofs.TwoWords.{by_bit, word_by_word, two_words}
 
 -- no row, and no vertex in a row
 pub no_row : (m : List ℕ) (b : ℕ) → (1 ≤ b → b ≤ 128 → ⊥) → (a : ℕ) → in_row m b a ≡ false
@@ -57,7 +57,7 @@ module _ (m : List ℕ) (size : length m ≡ 256) (b : ℕ) (low : 1 ≤ b) (hig
   second_word : get_or after ((b - 1) * 2 + 1) 0 ≡ v
   second_word = get_or-set_same (set m ((b - 1) * 2) w) ((b - 1) * 2 + 1) v 0 (let z : length (set m ((b - 1) * 2) w) ≡ length m = length-set m ((b - 1) * 2) w in omega arith)
 
-  pub row_stored : (c a : ℕ) → in_row (set (set m ((b - 1) * 2) w) ((b - 1) * 2 + 1) v) c a ≡ (if c is b then takes_part 128 (w ∷ v ∷ []) a else in_row m c a)
+  pub row_stored : (c a : ℕ) → in_row (set (set m ((b - 1) * 2) w) ((b - 1) * 2 + 1) v) c a ≡ (provided c is b then takes_part 128 (w ∷ v ∷ []) a else in_row m c a)
   row_stored c a = go (decide (c is b))
     where
       there : ((1 upto c and c upto 128) ≡ true) ⊎ ((1 upto c and c upto 128) ≡ false) → (c ≡ b → ⊥) → in_row after c a ≡ in_row m c a
@@ -71,11 +71,11 @@ module _ (m : List ℕ) (size : length m ≡ 256) (b : ℕ) (low : 1 ≤ b) (hig
           ∙ row_of m r c p q refl refl a
       there (inr k) n = let o : 1 ≤ c → c ≤ 128 → ⊥ = λ p q. not_both (→and (→upto p) (→upto q)) k in no_row after c o a ∙ sym (no_row m c o a)
 
-      go : ((c is b) ≡ true) ⊎ ((c is b) ≡ false) → in_row after c a ≡ (if c is b then takes_part 128 (w ∷ v ∷ []) a else in_row m c a)
+      go : ((c is b) ≡ true) ⊎ ((c is b) ≡ false) → in_row after c a ≡ (provided c is b then takes_part 128 (w ∷ v ∷ []) a else in_row m c a)
       go (inl k) =
           let e : c ≡ b = is→ k in
-          ap (λ (z : ℕ). in_row after z a) e ∙ sym (row_of after (w ∷ v ∷ []) b low high (sym first_word) (sym second_word) a) ∙ sym (if_true _ _ k)
-      go (inr k) = there (decide (1 upto c and c upto 128)) (isnt→ k) ∙ sym (if_false _ _ k)
+          ap (λ (z : ℕ). in_row after z a) e ∙ sym (row_of after (w ∷ v ∷ []) b low high (sym first_word) (sym second_word) a) ∙ sym (provided_true _ _ k)
+      go (inr k) = there (decide (1 upto c and c upto 128)) (isnt→ k) ∙ sym (provided_false _ _ k)
 
 -- `put_row` stores a set
 pub row_put : (m s : List ℕ) (b : ℕ) → length m ≡ 256 → 1 ≤ b → b ≤ 128 → PutRow m s b (set (set m ((b - 1) * 2) (get_or s 0 0)) ((b - 1) * 2 + 1) (get_or s 1 0))
@@ -83,7 +83,7 @@ row_put m s b size low high =
     record {
       size = after_size m b (get_or s 0 0) (get_or s 1 0);
       each = λ c a. row_stored m size b low high (get_or s 0 0) (get_or s 1 0) c a
-          ∙ ap (λ (t : Bool). if c is b then t else in_row m c a) (word_by_word (λ x y. x) refl (get_or s 0 0 ∷ get_or s 1 0 ∷ []) s s (λ x. refl) (λ x. refl) a);
+          ∙ ap (λ (t : Bool). provided c is b then t else in_row m c a) (word_by_word (λ x y. x) refl (get_or s 0 0 ∷ get_or s 1 0 ∷ []) s s (λ x. refl) (λ x. refl) a);
     }
 
 -- `join` stores the row with a set's vertices too
@@ -104,11 +104,11 @@ row_joined m s b w v low high p q =
         word_by_word ◌or◌ (unfold ◌or◌ in refl) (w ∷ v ∷ []) (get_or m ((b - 1) * 2) 0 ∷ get_or m ((b - 1) * 2 + 1) 0 ∷ []) s p (λ x. q x ∙ ap (λ (z : ℕ). marked z x or marked (get_or s 1 0) x) other) a
         ∙ ap (λ (t : Bool). t or takes_part 128 s a) (row_of m (get_or m ((b - 1) * 2) 0 ∷ get_or m ((b - 1) * 2 + 1) 0 ∷ []) b low high refl refl a)
 
-    go : (c a : ℕ) → ((c is b) ≡ true) ⊎ ((c is b) ≡ false) → (if c is b then takes_part 128 (w ∷ v ∷ []) a else in_row m c a) ≡ (in_row m c a or (c is b and 1 upto b and b upto 128 and takes_part 128 s a))
+    go : (c a : ℕ) → ((c is b) ≡ true) ⊎ ((c is b) ≡ false) → (provided c is b then takes_part 128 (w ∷ v ∷ []) a else in_row m c a) ≡ (in_row m c a or (c is b and 1 upto b and b upto 128 and takes_part 128 s a))
     go c a (inl k) =
         let e : c ≡ b = is→ k in
-        if_true _ _ k ∙ here a ∙ ap (λ (z : ℕ). in_row m z a or takes_part 128 s a) (sym e) ∙ ap (λ (t : Bool). in_row m c a or t) (sym (and_true (→and (→and k (→upto low)) (→upto high))))
-    go c a (inr k) = if_false _ _ k ∙ sym (or_no (in_row m c a) (and_no_left _ (and_no_left _ (and_no_left _ k))))
+        provided_true _ _ k ∙ here a ∙ ap (λ (z : ℕ). in_row m z a or takes_part 128 s a) (sym e) ∙ ap (λ (t : Bool). in_row m c a or t) (sym (and_true (→and (→and k (→upto low)) (→upto high))))
+    go c a (inr k) = provided_false _ _ k ∙ sym (or_no (in_row m c a) (and_no_left _ (and_no_left _ (and_no_left _ k))))
 
 -- .. and leaves the rows as they are where b is no vertex
 pub none_joined : (m s : List ℕ) (b : ℕ) → (1 ≤ b → b ≤ 128 → ⊥) → Joins m s b m

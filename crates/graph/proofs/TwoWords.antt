@@ -3,17 +3,16 @@ use mathlib.Core.Path.{◌≡◌, refl, sym, ap, ap₂, ◌∙◌}
 use mathlib.Core.Bool.{Bool, true, false}
 use mathlib.Core.Logic.{◌⊎◌, inl, inr, ⊎_elim}
 use mathlib.Core.List.{List, [], ◌∷◌}
-use Prim.Native.Nat.{ℕ, suc, ◌+◌, ◌-◌, ◌*◌, ◌/◌, ◌%◌, ◌≤◌, ◌<◌}
+use Prim.Native.Nat.{ℕ, ◌+◌, ◌-◌, ◌*◌, ◌/◌, ◌%◌, ◌≤◌, ◌<◌}
 use native.Mathlib.Omega.{arith}
 use lib.ListN.{length, get_or, set, replicate}
-use lib.Seq.{get_or-set_same, get_or-set_other}
-use Rattle.words.specs.Tests.{◌is◌, ◌below◌, ◌upto◌, ◌and◌, ◌or◌, fails, if◌then◌else◌, some, lowest}
-use Rattle.words.proofs.Truth.{decide, not_both, to_true, to_false, same_test, and→, →and, and_true, and_no_left, and_true_right, or→, →or_left, →or_right, or_false, is→, →is, isnt→, →isnt, below→, →below, upto→, →upto, not_upto→, →not_upto, if_true, if_false, some→, →some, →none, none→, lowest_is, lowest_at, lowest_none, below_lowest}
+use Rattle.words.specs.Tests.{◌is◌, ◌below◌, ◌upto◌, ◌and◌, ◌or◌, provided◌then◌else◌, some, lowest}
+use Rattle.words.proofs.Truth.{decide, not_both, to_false, same_test, and→, →and, and_true, and_no_left, and_true_right, or_false, is→, →is, →isnt, below→, →below, upto→, →upto, not_upto→, provided_true, some→, →some, none→, lowest_is, lowest_at, lowest_none, below_lowest}
 use Rattle.bits.specs.Word.{marked, more}
 use Rattle.bits.specs.Run.{bit}
 use Rattle.bits.proofs.Marks.{no_mark}
 use Rattle.bits.proofs.Runs.{bit_at, bit_more, no_bit}
-use Rattle.graph.specs.Matrix.{takes_part, in_row}
+use Rattle.graph.specs.Matrix.{takes_part}
 
 -- a number that is no vertex, or one with its mark in the first word, or in the second
 data Place (v : ℕ) : Type 0 where
@@ -178,19 +177,19 @@ two_of (a ∷ b ∷ []) e = refl
 two_of (a ∷ b ∷ c ∷ s) e = absurd (omega (arith, e))
 
 module _ (s : List ℕ) (v : ℕ) (size : length s ≡ 2) where
-  pub with_low : {m : ℕ} → 1 ≤ v → v ≤ 64 → m ≡ (if v - 1 below 64 then more (get_or s 0 0) (v - 1) else get_or s 0 0) → (t : ℕ)
+  pub with_low : {m : ℕ} → 1 ≤ v → v ≤ 64 → m ≡ (provided v - 1 below 64 then more (get_or s 0 0) (v - 1) else get_or s 0 0) → (t : ℕ)
       → takes_part 128 (m ∷ get_or s 1 0 ∷ []) t ≡ (t is v and 1 upto v and v upto 128 or takes_part 128 s t)
   with_low l h e t =
       let q : (v - 1) / 64 ≡ 0 = omega arith in
       let r : (v - 1) % 64 ≡ v - 1 = omega arith in
-      rw (e ∙ if_true _ _ (→below (omega arith))) (ap (λ (z : List ℕ). takes_part 128 (set z 0 (more (get_or s 0 0) (v - 1))) t) (sym (two_of s size)) ∙ (rw (q, r) at (with_one s v size l (omega arith) t)))
+      rw (e ∙ provided_true _ _ (→below (omega arith))) (ap (λ (z : List ℕ). takes_part 128 (set z 0 (more (get_or s 0 0) (v - 1))) t) (sym (two_of s size)) ∙ (rw (q, r) at (with_one s v size l (omega arith) t)))
 
-  pub with_high : {m : ℕ} → 65 ≤ v → v ≤ 128 → m ≡ (if v - 65 below 64 then more (get_or s 1 0) (v - 65) else get_or s 1 0) → (t : ℕ)
+  pub with_high : {m : ℕ} → 65 ≤ v → v ≤ 128 → m ≡ (provided v - 65 below 64 then more (get_or s 1 0) (v - 65) else get_or s 1 0) → (t : ℕ)
       → takes_part 128 (get_or s 0 0 ∷ m ∷ []) t ≡ (t is v and 1 upto v and v upto 128 or takes_part 128 s t)
   with_high l h e t =
       let q : (v - 1) / 64 ≡ 1 = omega arith in
       let r : (v - 1) % 64 ≡ v - 65 = omega arith in
-      rw (e ∙ if_true _ _ (→below (omega arith))) (ap (λ (z : List ℕ). takes_part 128 (set z 1 (more (get_or s 1 0) (v - 65))) t) (sym (two_of s size)) ∙ (rw (q, r) at (with_one s v size (omega arith) h t)))
+      rw (e ∙ provided_true _ _ (→below (omega arith))) (ap (λ (z : List ℕ). takes_part 128 (set z 1 (more (get_or s 1 0) (v - 65))) t) (sym (two_of s size)) ∙ (rw (q, r) at (with_one s v size (omega arith) h t)))
 
 pub none_with : (s : List ℕ) (v : ℕ) → (1 ≤ v → v ≤ 128 → ⊥) → (t : ℕ) → takes_part 128 s t ≡ (t is v and 1 upto v and v upto 128 or takes_part 128 s t)
 none_with s v o t = sym (or_false (to_false _ (λ h. let r = and→ h in o (upto→ (and→ r.0).1) (upto→ r.1))))

@@ -1,5 +1,7 @@
 // Orders, cycles and ways of a graph on the vertices 1..128. A set of vertices is two numbers of 64 marks, and the edges of a graph are a row for each
 // vertex: the set of those from which an edge leads to it. An edge of a vertex to itself, or of one that takes no part, counts for nothing.
+#![tactic(auto)]
+
 mod cycle;
 mod left;
 mod lent;

@@ -1,6 +1,6 @@
 -- The log with only the steps of the transactions that are marked.
 use Rattle.std.specs.Prelude.{Bool, List, [], ◌∷◌, ◌++◌, ℕ, zero, suc, get_or}
-use Rattle.words.specs.Tests.{◌is◌, ◌upto◌, ◌and◌, fails, if◌then◌else◌}
+use Rattle.words.specs.Tests.{◌is◌, ◌upto◌, ◌and◌, fails, provided◌then◌else◌}
 use Rattle.verdict.specs.Limits.{transactions}
 use Rattle.verdict.specs.Log.{kind, tx, obj, src}
 
@@ -15,7 +15,7 @@ module _ (marks : List ℕ) where
 
   -- step i, if its transaction is marked
   unfoldable pub kept_step : List ℕ → ℕ → List ℕ
-  kept_step log i = if marked (tx log i) then step log i else []
+  kept_step log i = provided marked (tx log i) then step log i else []
 
   -- those of the first n steps, in their order
   unfoldable pub kept : ℕ → List ℕ → List ℕ

@@ -6,8 +6,8 @@ use mathlib.Core.List.{List, []}
 use Prim.Native.Nat.{ℕ, suc, ◌≤◌, ◌<◌}
 use native.Mathlib.Omega.{arith}
 use native.Mathlib.Nat.{not-suc-le-zero}
-use Rattle.words.specs.Tests.{◌is◌, ◌below◌, ◌upto◌, ◌and◌, ◌or◌, if◌then◌else◌, some}
-use Rattle.words.proofs.Truth.{decide, not_both, to_false, and→, →and, or→, →or_left, →or_right, fails→, not_fails→, is→, →is, isnt→, below→, not_below→, upto→, →upto, not_upto→, if_true, some→, →some, none→, lowest_is, lowest_at}
+use Rattle.words.specs.Tests.{◌is◌, ◌below◌, ◌upto◌, ◌or◌, provided◌then◌else◌, some}
+use Rattle.words.proofs.Truth.{decide, not_both, to_false, and→, →and, or→, →or_left, →or_right, fails→, not_fails→, is→, →is, isnt→, below→, not_below→, upto→, →upto, not_upto→, provided_true, some→, →some, none→, lowest_is, lowest_at}
 use Rattle.verdict.specs.Limits.{objects}
 use Rattle.verdict.specs.Log.{steps, kind, tx, obj, begins, writes, commits, committed, writer, begin_step, commit_step}
 use Rattle.verdict.specs.Log.{begun, ended, wrote}
@@ -177,8 +177,8 @@ pub accepted_more : {most k t x : ℕ} {log : List ℕ} (s : ℕ) → Accepted m
 accepted_more {most} {k} {t} {x} {log} s ok good = accepted_grows ok good (more_grows log ok.whole k t x s) (more_whole log ok.whole k t x s)
 
 -- what the answer's number says
-pub else→ : (b : Bool) (n r : ℕ) → (if b then suc n else r) ≡ 0 → (b ≡ false) × (r ≡ 0)
-unfolding if◌then◌else◌
+pub else→ : (b : Bool) (n r : ℕ) → (provided b then suc n else r) ≡ 0 → (b ≡ false) × (r ≡ 0)
+unfolding provided◌then◌else◌
 else→ true n r h = absurd (omega arith)
 else→ false n r h = (refl, h)
 
@@ -197,7 +197,7 @@ good_step {most} full log k t x s h =
       in_range = (upto→ r.0, upto→ r.1);
       in_objects = λ o.
           let q : (k is 2 or k is 3) ≡ true = ⊎_elim (λ (z : k ≡ 2). →or_left _ (→is z)) (λ (z : k ≡ 3). →or_right _ (→is z)) o in
-          below→ (rw (if_true (x below objects) (x is 0) q) at (not_fails→ c.0));
+          below→ (rw (provided_true (x below objects) (x is 0) q) at (not_fails→ c.0));
       above = λ z. to_false _ (λ p. not_both (→and (→is z) p) e.0);
       alive = λ n. ⊎_elim (λ (z : (k is 1) ≡ true). absurd (n (is→ z))) (λ z. z) (or→ (not_fails→ g.0));
     }

@@ -5,8 +5,8 @@ use mathlib.Core.Logic.{◌⊎◌, inl, inr, ⊎_elim}
 use mathlib.Core.List.{List}
 use Prim.Native.Nat.{ℕ, ◌≤◌}
 use native.Mathlib.Omega.{arith}
-use Rattle.words.specs.Tests.{◌is◌, if◌then◌else◌}
-use Rattle.words.proofs.Truth.{decide, not_both, →fails, →not_fails, →is, →isnt, if_true, if_false}
+use Rattle.words.specs.Tests.{◌is◌, provided◌then◌else◌}
+use Rattle.words.proofs.Truth.{decide, not_both, →fails, →not_fails, →is, →isnt, provided_true, provided_false}
 use Rattle.live.specs.Answers.{Said, Taken, Yes, Breach, CycleClosed, stands, answer_number}
 use Rattle.live.specs.SoFar.{numbers, more}
 use Rattle.live.specs.Breach.{breached}
@@ -29,11 +29,11 @@ module _ (most : ℕ) (whole : List ℕ → Bool) (log : List ℕ) (k t x s : �
 
     pub says_refused : Said.Refused n ≡ says most whole (going log) k t x s
     unfolding says
-    says_refused = sym (if_false _ _ bad ∙ ap Said.Refused e)
+    says_refused = sym (provided_false _ _ bad ∙ ap Said.Refused e)
 
     pub after_refused : after most whole (going log) k t x s ≡ going log
     unfolding after
-    after_refused = if_true _ _ (→fails bad)
+    after_refused = provided_true _ _ (→fails bad)
 
   -- a good step
   module _ (e : number most whole log k t x s ≡ 0) where
@@ -42,35 +42,35 @@ module _ (most : ℕ) (whole : List ℕ → Bool) (log : List ℕ) (k t x s : �
 
     says_good : says most whole (going log) k t x s ≡ good_says most whole k (more log k t x s)
     unfolding says
-    says_good = if_true _ _ good
+    says_good = provided_true _ _ good
 
     pub after_good : {a : Said} → a ≡ says most whole (going log) k t x s → stands a ≡ false → after most whole (going log) k t x s ≡ going (more log k t x s)
     unfolding after
-    after_good f n = if_false _ _ (→not_fails good) ∙ if_false _ _ (subst (λ (b : Said). stands b ≡ false) (f ∙ says_good) n)
+    after_good f n = provided_false _ _ (→not_fails good) ∙ provided_false _ _ (subst (λ (b : Said). stands b ≡ false) (f ∙ says_good) n)
 
     -- that is no commit
     pub says_taken : (k ≡ 4 → ⊥) → Taken ≡ says most whole (going log) k t x s
     unfolding good_says
-    says_taken n = sym (says_good ∙ if_false _ _ (→isnt n))
+    says_taken n = sym (says_good ∙ provided_false _ _ (→isnt n))
 
     -- .. or a commit
     pub says_commit : k ≡ 4 → says most whole (going log) k t x s ≡ commit_says most whole (more log k t x s)
     unfolding good_says
-    says_commit c = says_good ∙ if_true _ _ (→is c)
+    says_commit c = says_good ∙ provided_true _ _ (→is c)
 
     module _ (c : k ≡ 4) (ok : Accepted most (more log k t x s)) where
-      told : says most whole (going log) k t x s ≡ (if breached most (more log k t x s) then Breach else if closed most (more log k t x s) then CycleClosed else Yes)
+      told : says most whole (going log) k t x s ≡ (provided breached most (more log k t x s) then Breach else provided closed most (more log k t x s) then CycleClosed else Yes)
       told = says_commit c ∙ commit_told ok whole
 
       pub says_breach : breached most (more log k t x s) ≡ true → Breach ≡ says most whole (going log) k t x s
-      says_breach b = sym (told ∙ if_true _ _ b)
+      says_breach b = sym (told ∙ provided_true _ _ b)
 
       module _ (b : breached most (more log k t x s) ≡ false) where
         pub says_closed : closed most (more log k t x s) ≡ true → CycleClosed ≡ says most whole (going log) k t x s
-        says_closed l = sym (told ∙ if_false _ _ b ∙ if_true _ _ l)
+        says_closed l = sym (told ∙ provided_false _ _ b ∙ provided_true _ _ l)
 
         pub says_yes : closed most (more log k t x s) ≡ false → Yes ≡ says most whole (going log) k t x s
-        says_yes l = sym (told ∙ if_false _ _ b ∙ if_false _ _ l)
+        says_yes l = sym (told ∙ provided_false _ _ b ∙ provided_false _ _ l)
 
 -- A STEP TAKEN
 module _ {l : Live} {b : Table} {k t x s : ℕ} where
@@ -82,7 +82,7 @@ module _ {l : Live} {b : Table} {k t x s : ℕ} where
       record {
         sized = size;
         room = room;
-        stood = sym (if_false _ _ refl);
+        stood = sym (provided_false _ _ refl);
         answers = λ log h. says_refused numbers (full numbers places) log k t x s (f log h) d;
         goes_on = λ log h _. (log, after_refused numbers (full numbers places) log k t x s (f log h) d, h);
       }
@@ -96,7 +96,7 @@ module _ {l : Live} {b : Table} {k t x s : ℕ} where
       record {
         sized = size;
         room = room;
-        stood = sym (if_false _ _ refl);
+        stood = sym (provided_false _ _ refl);
         answers = λ log h. says_taken numbers (full numbers places) log k t x s (f log h).0 n;
         goes_on = λ log h q. let r = f log h in (more log k t x s, after_good numbers (full numbers places) log k t x s r.0 (says_taken numbers (full numbers places) log k t x s r.0 n) q, r.1);
       }
@@ -104,7 +104,7 @@ module _ {l : Live} {b : Table} {k t x s : ℕ} where
   -- a commit that ends it
   pub took_last : {b' : Table} (a : Said) (n : ℕ) → stands a ≡ true → n ≡ answer_number a → Sized b' → l.count ≤ places → ((log : List ℕ) → Tidy log l.top l.count b → a ≡ says numbers (full numbers places) (going log) k t x s)
       → Took l b k t x s (record { live = record { standing = n; top = l.top; count = l.count }; said = a }) b'
-  took_last a n e d size room f = record { sized = size; room = room; stood = d ∙ sym (if_true _ _ e); answers = f; goes_on = λ log h q. absurd (not_both e q) }
+  took_last a n e d size room f = record { sized = size; room = room; stood = d ∙ sym (provided_true _ _ e); answers = f; goes_on = λ log h q. absurd (not_both e q) }
 
   -- .. and one that does not
   pub took_yes : {b' : Table} (count : ℕ) → Sized b' → count ≤ places
@@ -115,7 +115,7 @@ module _ {l : Live} {b : Table} {k t x s : ℕ} where
       record {
         sized = size;
         room = room;
-        stood = sym (if_false _ _ refl);
+        stood = sym (provided_false _ _ refl);
         answers = λ log h. (f log h).1;
         goes_on = λ log h q. let r = f log h in (more log k t x s, after_good numbers (full numbers places) log k t x s r.0 r.1 q, r.2);
       }
@@ -128,9 +128,9 @@ after_stands most whole log k t x s {a} e f = go (decide (number most whole log 
   where
     go : ((number most whole log k t x s is 0) ≡ true) ⊎ ((number most whole log k t x s is 0) ≡ false) → after most whole (going log) k t x s ≡ over a
     go (inl n) =
-        let g : a ≡ good_says most whole k (more log k t x s) = e ∙ if_true _ _ n in
-        if_false _ _ (→not_fails n) ∙ if_true _ _ (subst (λ (z : Said). stands z ≡ true) g f) ∙ ap over (sym g)
-    go (inr n) = absurd (not_both f (subst (λ (z : Said). stands z ≡ false) (sym (e ∙ if_false _ _ n)) (unfold stands in refl)))
+        let g : a ≡ good_says most whole k (more log k t x s) = e ∙ provided_true _ _ n in
+        provided_false _ _ (→not_fails n) ∙ provided_true _ _ (subst (λ (z : Said). stands z ≡ true) g f) ∙ ap over (sym g)
+    go (inr n) = absurd (not_both f (subst (λ (z : Said). stands z ≡ false) (sym (e ∙ provided_false _ _ n)) (unfold stands in refl)))
 
 -- which answer stands is seen by its number
 same_standing : (a c : Said) → stands a ≡ true → stands c ≡ true → answer_number a ≡ answer_number c → a ≡ c
@@ -189,8 +189,8 @@ module _ {l : Live} {b : Table} {k t x s : ℕ} where
       goes (going log) (holds_steps z h) = go (decide (stands r.said))
         where
           go : (stands r.said ≡ true) ⊎ (stands r.said ≡ false) → Holds r.live.standing r.live.top r.live.count b' (after numbers (full numbers places) (going log) k t x s)
-          go (inl e) = rw (after_stands numbers (full numbers places) log k t x s (c.answers log h) e) (holds_answer e (c.stood ∙ if_true _ _ e))
-          go (inr e) = let q = c.goes_on log h e in rw q.1 (holds_steps (c.stood ∙ if_false _ _ e ∙ z) q.2)
+          go (inl e) = rw (after_stands numbers (full numbers places) log k t x s (c.answers log h) e) (holds_answer e (c.stood ∙ provided_true _ _ e))
+          go (inr e) = let q = c.goes_on log h e in rw q.1 (holds_steps (c.stood ∙ provided_false _ _ e ∙ z) q.2)
 
   pub takes_breach : l.standing ≡ 66 → Sized b → l.count ≤ places → Takes l b k t x s (record { live = l; said = Breach }) b
   unfolding stands answer_number

@@ -5,8 +5,8 @@ use mathlib.Core.Logic.{◌⊎◌, inl, inr, ⊎_elim}
 use mathlib.Core.List.{List, [], ◌∷◌, map}
 use Prim.Native.Nat.{ℕ}
 use native.Mathlib.Omega.{arith}
-use Rattle.words.specs.Tests.{◌is◌, ◌upto◌, ◌and◌, ◌or◌, fails, if◌then◌else◌}
-use Rattle.words.proofs.Truth.{decide, is→, →is, isnt→, →isnt, if_true, if_false}
+use Rattle.words.specs.Tests.{◌is◌, ◌upto◌, ◌and◌, ◌or◌, fails, provided◌then◌else◌}
+use Rattle.words.proofs.Truth.{decide, is→, →is, isnt→, →isnt, provided_true, provided_false}
 use Rattle.verdict.specs.Refusal.{object_allowed}
 use Rattle.live.specs.Answers.{Said, Taken, Yes, Breach, CycleClosed, answer_number}
 use Rattle.live.specs.SoFar.{numbers, more, so_far, is_open, passed}
@@ -18,12 +18,12 @@ use Rattle.live.proofs.Answering.{says_refused, after_refused}
 
 -- the first number of those that apply
 first_number : (b3 b4 b5 b6 b7 b18 b8 : Bool) → ℕ
-first_number b3 b4 b5 b6 b7 b18 b8 = if b3 then 3 else if b4 then 4 else if b5 then 5 else if b6 then 6 else if b7 then 7 else if b18 then 18 else if b8 then 8 else 0
+first_number b3 b4 b5 b6 b7 b18 b8 = provided b3 then 3 else provided b4 then 4 else provided b5 then 5 else provided b6 then 6 else provided b7 then 7 else provided b18 then 18 else provided b8 then 8 else 0
 
 -- only 18 depends on whether the places are full
 first_apart : (b3 b4 b5 b6 b7 begin full b8 : Bool) → (first_number b3 b4 b5 b6 b7 (begin and full) b8 ≡ 18 → ⊥)
     → first_number b3 b4 b5 b6 b7 (begin and full) b8 ≡ first_number b3 b4 b5 b6 b7 (begin and false) b8
-unfolding first_number if◌then◌else◌ ◌and◌
+unfolding first_number provided◌then◌else◌ ◌and◌
 first_apart true b4 b5 b6 b7 begin full b8 d = refl
 first_apart false true b5 b6 b7 begin full b8 d = refl
 first_apart false false true b6 b7 begin full b8 d = refl
@@ -42,10 +42,10 @@ module _ (most : ℕ) (whole : List ℕ → Bool) where
 
   -- a good step's answer is not 18
   good_number : (k : ℕ) (log : List ℕ) → (answer_number (good_says most whole k log) is 18) ≡ false
-  unfolding good_says commit_says answer_number if◌then◌else◌
+  unfolding good_says commit_says answer_number provided◌then◌else◌
   good_number k log = go (k is 4) (breached most (so_far most log)) (closed most (so_far most log))
     where
-      go : (c b l : Bool) → (answer_number (if c then (if b then Breach else if l then CycleClosed else Yes) else Taken) is 18) ≡ false
+      go : (c b l : Bool) → (answer_number (provided c then (provided b then Breach else provided l then CycleClosed else Yes) else Taken) is 18) ≡ false
       go false b l = →isnt (λ (e : ◌≡◌ {A = ℕ} 64 18). omega arith)
       go true true l = →isnt (λ (e : ◌≡◌ {A = ℕ} 66 18). omega arith)
       go true false true = →isnt (λ (e : ◌≡◌ {A = ℕ} 67 18). omega arith)
@@ -71,8 +71,8 @@ module _ (most : ℕ) (whole : List ℕ → Bool) where
     other_number d = go (decide (number most whole log k t x s is 0))
       where
         go : ((number most whole log k t x s is 0) ≡ true) ⊎ ((number most whole log k t x s is 0) ≡ false) → (answer_number (says most whole (going log) k t x s) is 18) ≡ false
-        go (inl e) = rw (if_true (good_says most whole k (more log k t x s)) (Said.Refused (number most whole log k t x s)) e) (good_number k (more log k t x s))
-        go (inr e) = rw (if_false (good_says most whole k (more log k t x s)) (Said.Refused (number most whole log k t x s)) e) (→isnt d)
+        go (inl e) = rw (provided_true (good_says most whole k (more log k t x s)) (Said.Refused (number most whole log k t x s)) e) (good_number k (more log k t x s))
+        go (inr e) = rw (provided_false (good_says most whole k (more log k t x s)) (Said.Refused (number most whole log k t x s)) e) (→isnt d)
 
     other_apart : (number most whole log k t x s ≡ 18 → ⊥) → Apart (going log) k t x s
     unfolding Apart says after good_says commit_says
@@ -105,8 +105,8 @@ module _ (most : ℕ) (whole : List ℕ → Bool) where
       rest = steps_apart run (told next run)
 
       go : Apart j k t x s → answers_apart (told next run) ≡ roomy_told next rest → answers_apart (told j (k ∷ t ∷ x ∷ s ∷ run)) ≡ roomy_told j (steps_apart (k ∷ t ∷ x ∷ s ∷ run) (told j (k ∷ t ∷ x ∷ s ∷ run)))
-      go (inl (e, f)) rec = if_true _ _ e ∙ rec ∙ ap (λ (i : State). roomy_told i rest) f ∙ ap (roomy_told j) (sym (if_true _ _ e))
-      go (inr (e, f, g)) rec = if_false _ _ e ∙ (λ i. answer_number (f i) ∷ (rec ∙ ap (λ (i : State). roomy_told i rest) g) i) ∙ ap (roomy_told j) (sym (if_false _ _ e))
+      go (inl (e, f)) rec = provided_true _ _ e ∙ rec ∙ ap (λ (i : State). roomy_told i rest) f ∙ ap (roomy_told j) (sym (provided_true _ _ e))
+      go (inr (e, f, g)) rec = provided_false _ _ e ∙ (λ i. answer_number (f i) ∷ (rec ∙ ap (λ (i : State). roomy_told i rest) g) i) ∙ ap (roomy_told j) (sym (provided_false _ _ e))
 
 -- 18 APART, THE ANSWERS ARE THOSE OF A JUDGE WITH ROOM FOR EVERY TRANSACTION
 pub roomy : (run : List ℕ) (whole : List ℕ → Bool)

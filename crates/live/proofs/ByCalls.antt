@@ -8,7 +8,7 @@ use native.Mathlib.Omega.{arith}
 use lib.ListN.{length, get_or, replicate, length-replicate, length-append}
 use Rattle.words.specs.Tests.{some}
 use Rattle.words.specs.Lists.{zeros}
-use Rattle.words.proofs.Truth.{to_false, not_both, and_no_left, or→, →not_upto, if_false}
+use Rattle.words.proofs.Truth.{to_false, not_both, and_no_left, or→, →not_upto, provided_false}
 use Rattle.graph.specs.Matrix.{in_row}
 use Rattle.graph.proofs.RowLaws.{no_rows}
 use Rattle.verdict.specs.declared.answers.Checked.TheVariants.{Refused}
@@ -90,7 +90,7 @@ nothing_held =
       once = λ p q u v n e. absurd (none_used p n);
       row = λ p u n. absurd (none_used p n);
       free = λ p u e. no_number 8643 (p * 67 + 1);
-      opened = λ p u. no_number 256 (p - 1) ∙ sym (if_false _ _ (none_open _));
+      opened = λ p u. no_number 256 (p - 1) ∙ sym (provided_false _ _ (none_open _));
       last = λ x l. no_sees 8643 x ∙ sym (writer_none [] x);
       until = λ p u c. absurd (not_both c (none_committed _));
       bar = λ p u e. absurd (let z : status_at (zeros 8643) p ≡ 0 = no_number 8643 (p * 67 + 1) in omega arith);

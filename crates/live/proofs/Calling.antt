@@ -6,8 +6,8 @@ use mathlib.Core.List.{List, [], ◌∷◌}
 use Prim.Native.Nat.{ℕ, ◌*◌, ◌/◌, ◌%◌, ◌≤◌}
 use native.Mathlib.Omega.{arith}
 use lib.ListN.{length, get_or, set}
-use Rattle.words.specs.Tests.{◌is◌, ◌upto◌, fails, if◌then◌else◌}
-use Rattle.words.proofs.Truth.{decide, not_fails→, →fails, →not_fails, is→, →is, →isnt, upto→, →upto, if_true, if_false}
+use Rattle.words.specs.Tests.{◌is◌, ◌upto◌, fails, provided◌then◌else◌}
+use Rattle.words.proofs.Truth.{decide, not_fails→, →fails, →not_fails, is→, →is, →isnt, upto→, →upto, provided_true, provided_false}
 use Rattle.verdict.specs.declared.answers.Checked.TheVariants.{Passed, Refused}
 use Rattle.verdict.specs.Refusal.{◌at◌when◌}
 use Rattle.verdict.proofs.Bounds.{Within, within_when, within_else}
@@ -112,16 +112,16 @@ module _ (b : Buffers) (part answers : List ℕ) where
 
 -- THE STATE as it is read and as it is put back
 module _ {standing top count : ℕ} {b : Table} where
-  count_there : (j : State) {used : ℕ} → used ≡ (if count upto places then count else places) → Holds standing top count b j → Holds standing top used b j
-  count_there (going log) e (holds_steps z h) = let q = e ∙ if_true _ _ (→upto h.held.room) in holds_steps z (subst (λ (c : ℕ). Tidy log top c b) (sym q) h)
+  count_there : (j : State) {used : ℕ} → used ≡ (provided count upto places then count else places) → Holds standing top count b j → Holds standing top used b j
+  count_there (going log) e (holds_steps z h) = let q = e ∙ provided_true _ _ (→upto h.held.room) in holds_steps z (subst (λ (c : ℕ). Tidy log top c b) (sym q) h)
   count_there (over a) e (holds_answer f g) = holds_answer f g
 
-pub used_few : {used : ℕ} (count : ℕ) → used ≡ (if count upto places then count else places) → used ≤ places
+pub used_few : {used : ℕ} (count : ℕ) → used ≡ (provided count upto places then count else places) → used ≤ places
 used_few {used} count e = go (decide (count upto places))
   where
     go : ((count upto places) ≡ true) ⊎ ((count upto places) ≡ false) → used ≤ places
-    go (inl q) = let z : used ≡ count = e ∙ if_true _ _ q in omega (arith, upto→ q)
-    go (inr q) = let z : used ≡ places = e ∙ if_false _ _ q in omega arith
+    go (inl q) = let z : used ≡ count = e ∙ provided_true _ _ q in omega (arith, upto→ q)
+    go (inr q) = let z : used ≡ places = e ∙ provided_false _ _ q in omega arith
 
 put_back : (state : List ℕ) (standing top count : ℕ) → length state ≡ 3
     → (get_or (set (set (set state 0 standing) 1 top) 2 count) 0 0 ≡ standing) × (get_or (set (set (set state 0 standing) 1 top) 2 count) 1 0 ≡ top) × (get_or (set (set (set state 0 standing) 1 top) 2 count) 2 0 ≡ count)
@@ -132,7 +132,7 @@ put_back (a ∷ b ∷ []) standing top count e = absurd (omega arith)
 put_back (a ∷ b ∷ c ∷ d ∷ l) standing top count e = absurd (omega arith)
 
 pub accepted : {state opened rows marks edges part answers opened' rows' marks' edges' answers' : List ℕ} {used : ℕ} {r : Live}
-    → call_refusal (buffers state opened rows marks edges) part answers ≡ Passed → length state ≡ 3 → used ≡ (if get_or state 2 0 upto places then get_or state 2 0 else places)
+    → call_refusal (buffers state opened rows marks edges) part answers ≡ Passed → length state ≡ 3 → used ≡ (provided get_or state 2 0 upto places then get_or state 2 0 else places)
     → TakesPart (record { standing = get_or state 0 0; top = get_or state 1 0; count = used }) (table opened rows marks edges) part answers r (table opened' rows' marks' edges') answers'
     → LiveCall (buffers state opened rows marks edges) part answers Accepted (buffers (set (set (set state 0 r.standing) 1 r.top) 2 r.count) opened' rows' marks' edges') answers'
 accepted {state} {opened} {rows} {marks} {edges} {opened' = opened'} {rows'} {marks'} {edges'} {r = r} e size u t =

@@ -4,8 +4,8 @@ use mathlib.Core.Bool.{Bool, true, false}
 use mathlib.Core.Logic.{◌⊎◌, inl, inr}
 use mathlib.Core.List.{List}
 use Prim.Native.Nat.{ℕ, ◌<◌}
-use Rattle.words.specs.Tests.{◌is◌, ◌and◌, ◌or◌, fails, if◌then◌else◌, some}
-use Rattle.words.proofs.Truth.{decide, same_test, and→, →and, and_no_right, →or_left, →or_right, or_false, is→, if_true, if_false, none→, some_same}
+use Rattle.words.specs.Tests.{◌is◌, ◌and◌, ◌or◌, fails, provided◌then◌else◌, some}
+use Rattle.words.proofs.Truth.{decide, same_test, and→, →and, and_no_right, →or_left, →or_right, or_false, is→, provided_true, provided_false, none→, some_same}
 use Rattle.bits.specs.Word.{marked, less}
 use Rattle.bits.proofs.Marks.{marked_less}
 use Rattle.bits.proofs.Walks.{turned, unturned}
@@ -20,7 +20,7 @@ pub compared_none : (marks : ℕ) (eq : ℕ → Bool) → Compared marks eq mark
 compared_none marks eq = record { kept = λ z l. same_test (λ h. →and h (→or_left _ h)) (λ h. (and→ h).0); part = λ z h. h }
 
 module _ {marks same left : ℕ} {eq : ℕ → Bool} (c : Compared marks eq same left) (y : ℕ) where
-  pub compared_more : (a b : ℕ) → eq y ≡ (a is b) → Compared marks eq (if a is b then same else less same y) (less left y)
+  pub compared_more : (a b : ℕ) → eq y ≡ (a is b) → Compared marks eq (provided a is b then same else less same y) (less left y)
   compared_more a b e = record { kept = λ z l. go (decide (a is b)) z l (decide (z is y)); part = λ z h. c.part z (and→ (sym (marked_less left y z) ∙ h)).0 }
     where
       at_turn : (z : ℕ) → (z is y) ≡ true → (marked marks z and (marked (less left y) z or eq z)) ≡ (marked marks z and (a is b))
@@ -31,16 +31,16 @@ module _ {marks same left : ℕ} {eq : ℕ → Bool} (c : Compared marks eq same
       others : (z : ℕ) → z < 64 → (z is y) ≡ false → marked same z ≡ (marked marks z and (marked (less left y) z or eq z))
       others z l f = c.kept z l ∙ ap (λ (r : Bool). marked marks z and (r or eq z)) (sym (unturned left y z f))
 
-      go : ((a is b) ≡ true) ⊎ ((a is b) ≡ false) → (z : ℕ) → z < 64 → ((z is y) ≡ true) ⊎ ((z is y) ≡ false) → marked (if a is b then same else less same y) z ≡ (marked marks z and (marked (less left y) z or eq z))
+      go : ((a is b) ≡ true) ⊎ ((a is b) ≡ false) → (z : ℕ) → z < 64 → ((z is y) ≡ true) ⊎ ((z is y) ≡ false) → marked (provided a is b then same else less same y) z ≡ (marked marks z and (marked (less left y) z or eq z))
       go (inl d) z l (inl f) =
           let q : z ≡ y = is→ f in
           let w : eq z ≡ true = rw q (e ∙ d) in
-          rw (if_true same (less same y) d) (c.kept z l ∙ ap (λ (r : Bool). marked marks z and r) (→or_right _ w) ∙ sym (at_turn z f ∙ ap (λ (r : Bool). marked marks z and r) d))
-      go (inl d) z l (inr f) = rw (if_true same (less same y) d) (others z l f)
+          rw (provided_true same (less same y) d) (c.kept z l ∙ ap (λ (r : Bool). marked marks z and r) (→or_right _ w) ∙ sym (at_turn z f ∙ ap (λ (r : Bool). marked marks z and r) d))
+      go (inl d) z l (inr f) = rw (provided_true same (less same y) d) (others z l f)
       go (inr d) z l (inl f) =
           let q : z ≡ y = is→ f in
-          rw (if_false same (less same y) d) (rw q (turned same y) ∙ sym (at_turn z f ∙ and_no_right _ d))
-      go (inr d) z l (inr f) = rw (if_false same (less same y) d) (unturned same y z f ∙ others z l f)
+          rw (provided_false same (less same y) d) (rw q (turned same y) ∙ sym (at_turn z f ∙ and_no_right _ d))
+      go (inr d) z l (inr f) = rw (provided_false same (less same y) d) (unturned same y z f ∙ others z l f)
 
   pub compared_all : some 64 (marked left) ≡ false → (z : ℕ) → z < 64 → marked same z ≡ (marked marks z and eq z)
   compared_all n z l = c.kept z l ∙ ap (λ (b : Bool). marked marks z and b) (or_false (none→ (marked left) n z l))

@@ -5,7 +5,7 @@ use mathlib.Core.Logic.{◌⊎◌, inl, inr, ⊎_elim}
 use mathlib.Core.List.{List}
 use Prim.Native.Nat.{ℕ, suc, ◌≤◌, ◌<◌}
 use native.Mathlib.Omega.{arith}
-use Rattle.words.specs.Tests.{◌is◌, ◌and◌, count}
+use Rattle.words.specs.Tests.{◌is◌, count}
 use Rattle.words.proofs.Truth.{decide, not_both, to_false, and→, fails→, is→, isnt→, count_above}
 use Rattle.graph.specs.Cycle.{is_cycle}
 use Rattle.graph.specs.Reach.{Way, stay, onward}

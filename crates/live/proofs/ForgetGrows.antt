@@ -5,7 +5,7 @@ use mathlib.Core.Logic.{◌⊎◌, inl, inr, ⊎_elim}
 use mathlib.Core.List.{List}
 use Prim.Native.Nat.{ℕ, ◌≤◌, ◌<◌}
 use native.Mathlib.Omega.{arith}
-use Rattle.words.specs.Tests.{◌is◌, ◌below◌, ◌and◌, ◌or◌, fails}
+use Rattle.words.specs.Tests.{◌is◌, ◌and◌, ◌or◌, fails}
 use Rattle.words.proofs.Truth.{decide, not_both, to_false, same_test, and→, →and, or→, →or_left, →or_right, fails→, →fails, is→, →is, isnt→, →isnt, below→, →below, some→, →some}
 use Rattle.graph.specs.Reach.{Way, stay, onward}
 use Rattle.verdict.specs.Log.{steps, begun, committed, begin_step, commit_step}

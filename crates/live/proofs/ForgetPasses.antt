@@ -3,11 +3,11 @@ use mathlib.Core.Path.{◌≡◌, refl, sym, ap, subst, ◌∙◌}
 use mathlib.Core.Bool.{Bool, true, false, false≢true}
 use mathlib.Core.Logic.{◌⊎◌, inl, inr, ⊎_elim}
 use mathlib.Core.List.{List}
-use Prim.Native.Nat.{ℕ, suc, ◌+◌, ◌-◌, ◌*◌, ◌≤◌, ◌<◌}
+use Prim.Native.Nat.{ℕ, suc, ◌+◌, ◌*◌, ◌≤◌, ◌<◌}
 use native.Mathlib.Omega.{arith}
 use lib.ListN.{length}
-use Rattle.words.specs.Tests.{◌is◌, ◌upto◌, ◌and◌, ◌or◌, fails, if◌then◌else◌}
-use Rattle.words.proofs.Truth.{decide, to_false, and→, and_true_right, fails→, →fails, is→, →is, isnt→, →isnt, upto→, not_upto→, if_true, if_false, count_same, count_without}
+use Rattle.words.specs.Tests.{◌is◌, ◌upto◌, ◌and◌, ◌or◌, fails, provided◌then◌else◌}
+use Rattle.words.proofs.Truth.{decide, to_false, and→, and_true_right, fails→, →fails, is→, →is, isnt→, →isnt, upto→, not_upto→, provided_true, provided_false, count_same, count_without}
 use Rattle.verdict.specs.Limits.{objects}
 use Rattle.live.specs.SoFar.{is_open}
 use Rattle.live.specs.Kept.{places}
@@ -108,19 +108,19 @@ going_none opened rows edges n least r e = record { size_rows = r; size_edges = 
 
 -- how much is left to do: after a pass fewer are left, or there is none more
 unfoldable pub to_do : List ℕ → Bool → ℕ
-to_do rows again = done_count rows * 2 + (if again then 1 else 0)
+to_do rows again = done_count rows * 2 + (provided again then 1 else 0)
 
 module _ {opened rows' edges' rows'' edges'' : List ℕ} {n least : ℕ} {r : Bool} (c : Passes opened rows' edges' n least rows'' edges'' r) where
   pub pass_fewer : {again : Bool} → again ≡ true → to_do rows'' r < to_do rows' again
   unfolding to_do
   pass_fewer {again} f = go (decide r)
     where
-      one : (b : Bool) → b ≡ true → ◌≡◌ {A = ℕ} (if b then 1 else 0) 1
-      one b e = if_true _ _ e
+      one : (b : Bool) → b ≡ true → ◌≡◌ {A = ℕ} (provided b then 1 else 0) 1
+      one b e = provided_true _ _ e
 
-      go : (r ≡ true) ⊎ (r ≡ false) → done_count rows'' * 2 + (if r then 1 else 0) < done_count rows' * 2 + (if again then 1 else 0)
+      go : (r ≡ true) ⊎ (r ≡ false) → done_count rows'' * 2 + (provided r then 1 else 0) < done_count rows' * 2 + (provided again then 1 else 0)
       go (inl e) = omega (arith, one r e, one again f, c.fewer.1 e)
-      go (inr e) = let z : ◌≡◌ {A = ℕ} (if r then 1 else 0) 0 = if_false _ _ e in omega (arith, one again f, c.fewer.0)
+      go (inr e) = let z : ◌≡◌ {A = ℕ} (provided r then 1 else 0) 0 = provided_false _ _ e in omega (arith, one again f, c.fewer.0)
 
   pub going_more : {rows edges : List ℕ} {again : Bool} → Going opened rows edges n least again rows' edges' → Going opened rows edges n least r rows'' edges''
   going_more w =

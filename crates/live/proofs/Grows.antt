@@ -7,13 +7,12 @@ use Prim.Native.Nat.{ℕ, zero, suc, ◌+◌, ◌*◌, ◌≤◌, ◌<◌}
 use native.Mathlib.Omega.{arith}
 use lib.ListN.{length, get_or, length-append, get_or-append}
 use lib.Seq.{get_or-append-add}
-use Rattle.words.specs.Tests.{◌is◌, ◌below◌, ◌and◌, ◌or◌, if◌then◌else◌, some, lowest}
+use Rattle.words.specs.Tests.{◌is◌, ◌and◌, ◌or◌, provided◌then◌else◌, some, lowest}
 use Rattle.words.proofs.Truth.{decide, not_both, →and, and_no_left, and_no_right, or_no, →is, →isnt, some→, →some, none→, some_same, lowest_is, lowest_at, lowest_le}
 use Rattle.verdict.specs.Log.{steps, kind, tx, obj, src, begins, reads, writes, commits, aborts, committed, writer, begin_step, commit_step, commits_writer}
 use Rattle.verdict.specs.Log.{begun, ended, wrote}
 use Rattle.verdict.specs.Clean.{after_own_write}
 use Rattle.verdict.specs.Snapshot.{writer_number, snapshot_step, last_committed, wanted}
-use Rattle.verdict.specs.declared.answers.Writer.{Writer}
 use Rattle.verdict.specs.declared.answers.Writer.TheVariants.{Reader}
 use Rattle.verdict.proofs.SnapshotLaws.{last_none, last_here, last_before}
 use Rattle.live.specs.SoFar.{more}
@@ -48,13 +47,13 @@ module _ (log : List ℕ) (x : ℕ) where
   writer_before b h = ap writer_number (last_before log x b h)
 
 -- what a read should name: the reader itself after its own write, else what it sees
-pub wanted_is : (log : List ℕ) (i : ℕ) → source_wanted log i ≡ (if wrote log i (tx log i) (obj log i) then tx log i else last_writer log (begin_step log (tx log i)) (obj log i))
+pub wanted_is : (log : List ℕ) (i : ℕ) → source_wanted log i ≡ (provided wrote log i (tx log i) (obj log i) then tx log i else last_writer log (begin_step log (tx log i)) (obj log i))
 unfolding source_wanted wanted after_own_write snapshot_step last_writer
 wanted_is log i = go (wrote log i (tx log i) (obj log i))
   where
-    go : (b : Bool) → writer_number (if b then Reader (tx log i) else last_committed log (begin_step log (tx log i)) (obj log i)) ≡ (if b then tx log i else writer_number (last_committed log (begin_step log (tx log i)) (obj log i)))
-    go true = unfold if◌then◌else◌ writer_number in refl
-    go false = unfold if◌then◌else◌ in refl
+    go : (b : Bool) → writer_number (provided b then Reader (tx log i) else last_committed log (begin_step log (tx log i)) (obj log i)) ≡ (provided b then tx log i else writer_number (last_committed log (begin_step log (tx log i)) (obj log i)))
+    go true = unfold provided◌then◌else◌ writer_number in refl
+    go false = unfold provided◌then◌else◌ in refl
 
 -- log' is log and one step more
 pub record Grows (log : List ℕ) (k t x s : ℕ) (log' : List ℕ) : Type 0 where

@@ -5,8 +5,8 @@ use mathlib.Core.Logic.{◌⊎◌, inl, inr, ⊎_elim}
 use mathlib.Core.List.{List}
 use Prim.Native.Nat.{ℕ, ◌≤◌, ◌<◌}
 use native.Mathlib.Omega.{arith}
-use Rattle.words.specs.Tests.{◌is◌, ◌upto◌, ◌and◌, ◌or◌, if◌then◌else◌}
-use Rattle.words.proofs.Truth.{not_both, same_test, and→, →and, or→, →or_right, →is, upto→, →upto, not_upto→, if_true}
+use Rattle.words.specs.Tests.{◌is◌, ◌upto◌, ◌and◌, ◌or◌, provided◌then◌else◌}
+use Rattle.words.proofs.Truth.{not_both, same_test, and→, →and, or→, →or_right, →is, upto→, →upto, not_upto→, provided_true}
 use Rattle.graph.specs.Matrix.{in_row}
 use Rattle.verdict.specs.Limits.{objects}
 use Rattle.verdict.specs.Log.{steps, begun, committed, commit_step}
@@ -100,12 +100,12 @@ module _ {log log' : List ℕ} {top count k t x s : ℕ} {b b' : Table} (h : Hel
           row_as (row_begin h.accepted good g begin h.last)
           (is_new q z) (ap (status_at b'.rows) z ∙ c.status) (λ y l. ap (λ (w : ℕ). sees_at b'.rows w y) z ∙ c.sees y l) (ap (writes_at b'.marks) z ∙ c.writes) (ap (reads_at b'.marks) z ∙ c.reads)
 
-  opened : (q : ℕ) → Place places q → open_at b'.opened q ≡ (if is_open log' (name_at b'.rows q) then name_at b'.rows q else 0)
+  opened : (q : ℕ) → Place places q → open_at b'.opened q ≡ (provided is_open log' (name_at b'.rows q) then name_at b'.rows q else 0)
   opened q v = go (here_or_not q p)
     where
-      go : (q ≡ p) ⊎ (q ≡ p → ⊥) → open_at b'.opened q ≡ (if is_open log' (name_at b'.rows q) then name_at b'.rows q else 0)
-      go (inr d) = rw (c.names q v d) (c.opens q v d ∙ h.opened q v ∙ ap (λ (o : Bool). if o then name_at b.rows q else 0) (sym (open_other g (name_at b.rows q) (new q v))))
-      go (inl z) = rw (is_new q z) (ap (open_at b'.opened) z ∙ c.opened ∙ sym (if_true _ _ (open_new h.accepted good g begin)))
+      go : (q ≡ p) ⊎ (q ≡ p → ⊥) → open_at b'.opened q ≡ (provided is_open log' (name_at b'.rows q) then name_at b'.rows q else 0)
+      go (inr d) = rw (c.names q v d) (c.opens q v d ∙ h.opened q v ∙ ap (λ (o : Bool). provided o then name_at b.rows q else 0) (sym (open_other g (name_at b.rows q) (new q v))))
+      go (inl z) = rw (is_new q z) (ap (open_at b'.opened) z ∙ c.opened ∙ sym (provided_true _ _ (open_new h.accepted good g begin)))
 
   until : (q : ℕ) → Place places q → committed log' (name_at b'.rows q) ≡ true → (v : ℕ) → 1 ≤ v → passed_by log' (commit_step log' (name_at b'.rows q)) v ≡ (v upto until_at b'.rows q)
   until q w d v l = go (here_or_not q p)

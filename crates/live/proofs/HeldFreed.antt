@@ -6,8 +6,8 @@ use mathlib.Core.List.{List}
 use Prim.Native.Nat.{ℕ, ◌+◌, ◌*◌, ◌≤◌, ◌<◌}
 use native.Mathlib.Omega.{arith}
 use lib.ListN.{length, set, length-set}
-use Rattle.words.specs.Tests.{◌is◌, ◌upto◌, if◌then◌else◌}
-use Rattle.words.proofs.Truth.{not_both, if_false}
+use Rattle.words.specs.Tests.{◌upto◌, provided◌then◌else◌}
+use Rattle.words.proofs.Truth.{not_both, provided_false}
 use Rattle.graph.specs.Matrix.{in_row}
 use Rattle.verdict.specs.Limits.{objects}
 use Rattle.verdict.specs.Log.{committed, commit_step}
@@ -110,9 +110,9 @@ module _ {log : List ℕ} {top count : ℕ} {b b' : Table} (h : Held log top cou
           let d = in_use_other q n in
           row_as (h.row q v (subst (λ (z : ℕ). 1 ≤ z) (name_stays q d) n)) (name_stays q d) (status_stays q d) (sees_stay q d) (ap (λ (m : List ℕ). writes_at m q) c.marks) (ap (λ (m : List ℕ). reads_at m q) c.marks)
 
-      opened : (q : ℕ) → Place places q → open_at b'.opened q ≡ (if is_open log (name_at b'.rows q) then name_at b'.rows q else 0)
+      opened : (q : ℕ) → Place places q → open_at b'.opened q ≡ (provided is_open log (name_at b'.rows q) then name_at b'.rows q else 0)
       opened q v =
-          ⊎_elim (λ (e : q ≡ p). ap (open_at b'.opened) e ∙ c.opened ∙ sym (if_false _ _ (none_open h _ (gone q e)))) (λ d. rw (name_stays q d) (c.opens q v d ∙ h.opened q v)) (here_or_not q p)
+          ⊎_elim (λ (e : q ≡ p). ap (open_at b'.opened) e ∙ c.opened ∙ sym (provided_false _ _ (none_open h _ (gone q e)))) (λ d. rw (name_stays q d) (c.opens q v d ∙ h.opened q v)) (here_or_not q p)
 
       until : (q : ℕ) → Place places q → committed log (name_at b'.rows q) ≡ true → (t : ℕ) → 1 ≤ t → passed_by log (commit_step log (name_at b'.rows q)) t ≡ (t upto until_at b'.rows q)
       until q v d t l =

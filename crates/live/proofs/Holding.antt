@@ -5,8 +5,8 @@ use mathlib.Core.Logic.{◌⊎◌, inl, inr, ⊎_elim}
 use mathlib.Core.List.{List}
 use Prim.Native.Nat.{ℕ, ◌≤◌, ◌<◌}
 use native.Mathlib.Omega.{arith}
-use Rattle.words.specs.Tests.{◌is◌, ◌upto◌, ◌and◌, ◌or◌, if◌then◌else◌, some}
-use Rattle.words.proofs.Truth.{decide, not_both, to_false, and_no_left, and_no_right, and_true, →or_left, or_no, or_false, is→, →is, isnt→, →isnt, upto→, not_upto→, if_true, if_false}
+use Rattle.words.specs.Tests.{◌is◌, ◌upto◌, ◌and◌, ◌or◌, provided◌then◌else◌, some}
+use Rattle.words.proofs.Truth.{decide, not_both, to_false, and_no_left, and_no_right, and_true, →or_left, or_no, or_false, is→, →is, isnt→, →isnt, upto→, not_upto→, provided_true, provided_false}
 use Rattle.graph.specs.Matrix.{in_row}
 use Rattle.verdict.specs.Limits.{objects}
 use Rattle.verdict.specs.Log.{steps, committed, writer, commit_step}
@@ -61,8 +61,8 @@ module _ {log : List ℕ} {top count : ℕ} {b : Table} (h : Held log top count 
   open_there p t n u e = go (decide (is_open log (name_at b.rows p)))
     where
       go : (is_open log (name_at b.rows p) ≡ true) ⊎ (is_open log (name_at b.rows p) ≡ false) → (name_at b.rows p ≡ t) × (is_open log t ≡ true)
-      go (inl o) = let z : name_at b.rows p ≡ t = sym (if_true _ _ o) ∙ sym (h.opened p u) ∙ e in (z, subst (λ (v : ℕ). is_open log v ≡ true) z o)
-      go (inr o) = let z : t ≡ 0 = sym e ∙ h.opened p u ∙ if_false _ _ o in absurd (omega arith)
+      go (inl o) = let z : name_at b.rows p ≡ t = sym (provided_true _ _ o) ∙ sym (h.opened p u) ∙ e in (z, subst (λ (v : ℕ). is_open log v ≡ true) z o)
+      go (inr o) = let z : t ≡ 0 = sym e ∙ h.opened p u ∙ provided_false _ _ o in absurd (omega arith)
 
   module _ {keeps : ℕ → Bool} (m : Keeping log b keeps) where
     pub there_open : (t : ℕ) → is_open log t ≡ true → (p : ℕ) × Place count p × (open_at b.opened p ≡ t)
@@ -70,7 +70,7 @@ module _ {log : List ℕ} {top count : ℕ} {b : Table} (h : Held log top count 
         let r = m.placed t (→or_left _ o) in
         let z : name_at b.rows r.0 ≡ t = r.2 in
         let l : 1 ≤ t = (begun_range h.accepted t (open→ log t o).0).0 in
-        (r.0, used_low r.0 r.1 (omega arith), h.opened r.0 r.1 ∙ if_true _ _ (subst (λ (v : ℕ). is_open log v ≡ true) (sym z) o) ∙ z)
+        (r.0, used_low r.0 r.1 (omega arith), h.opened r.0 r.1 ∙ provided_true _ _ (subst (λ (v : ℕ). is_open log v ≡ true) (sym z) o) ∙ z)
 
     pub not_open : (t : ℕ) → ((p : ℕ) → Place count p → open_at b.opened p ≡ t → ⊥) → is_open log t ≡ false
     not_open t n = to_false _ (λ o. let r = there_open t o in n r.0 r.1 r.2)
@@ -102,7 +102,7 @@ module _ {log log' : List ℕ} {top count k t x s : ℕ} {b : Table} (h : Held l
   other q v d e = d (sym (h.once p q u v (subst (λ (z : ℕ). 1 ≤ z) (sym is_t) good.in_range.0) (is_t ∙ e)))
 
   module _ {b' : Table} (c : Touched b b' p) (row : Row log' t (status_at b'.rows p) (sees_at b'.rows p) (writes_at b'.marks p) (reads_at b'.marks p))
-      (opened : open_at b'.opened p ≡ (if is_open log' t then t else 0)) (no_begin : k ≡ 1 → ⊥) where
+      (opened : open_at b'.opened p ≡ (provided is_open log' t then t else 0)) (no_begin : k ≡ 1 → ⊥) where
     rows_later : (q : ℕ) → Place places q → 1 ≤ name_at b'.rows q → Row log' (name_at b'.rows q) (status_at b'.rows q) (sees_at b'.rows q) (writes_at b'.marks q) (reads_at b'.marks q)
     rows_later q v n = go (decide (q is p))
       where
@@ -114,14 +114,14 @@ module _ {log log' : List ℕ} {top count k t x s : ℕ} {b : Table} (h : Held l
             let d : q ≡ p → ⊥ = isnt→ e in
             row_as (row_other h.accepted good g (other q v d) (h.row q v (subst (λ (z : ℕ). 1 ≤ z) (c.names q v) n))) (c.names q v) (c.statuses q v d) (c.seeings q v) (c.writings q v d) (c.readings q v d)
 
-    opened_later : (q : ℕ) → Place places q → open_at b'.opened q ≡ (if is_open log' (name_at b'.rows q) then name_at b'.rows q else 0)
+    opened_later : (q : ℕ) → Place places q → open_at b'.opened q ≡ (provided is_open log' (name_at b'.rows q) then name_at b'.rows q else 0)
     opened_later q v = go (decide (q is p))
       where
-        go : ((q is p) ≡ true) ⊎ ((q is p) ≡ false) → open_at b'.opened q ≡ (if is_open log' (name_at b'.rows q) then name_at b'.rows q else 0)
+        go : ((q is p) ≡ true) ⊎ ((q is p) ≡ false) → open_at b'.opened q ≡ (provided is_open log' (name_at b'.rows q) then name_at b'.rows q else 0)
         go (inl e) = let z : q ≡ p = is→ e in let n : name_at b'.rows q ≡ t = c.names q v ∙ ap (name_at b.rows) z ∙ is_t in rw n (ap (open_at b'.opened) z ∙ opened)
         go (inr e) =
             let d : q ≡ p → ⊥ = isnt→ e in
-            rw (c.names q v) (c.opens q v d ∙ h.opened q v ∙ ap (λ (o : Bool). if o then name_at b.rows q else 0) (sym (open_other g (name_at b.rows q) (other q v d))))
+            rw (c.names q v) (c.opens q v d ∙ h.opened q v ∙ ap (λ (o : Bool). provided o then name_at b.rows q else 0) (sym (open_other g (name_at b.rows q) (other q v d))))
 
     once_later : (q r : ℕ) → Place places q → Place places r → 1 ≤ name_at b'.rows q → name_at b'.rows q ≡ name_at b'.rows r → q ≡ r
     once_later q r v w n e = h.once q r v w (subst (λ (z : ℕ). 1 ≤ z) (c.names q v) n) (sym (c.names q v) ∙ e ∙ c.names r w)
@@ -231,7 +231,7 @@ module _ {log log' : List ℕ} {top count k t x s : ℕ} {b : Table} (h : Held l
               let n : q ≡ p → ⊥ = isnt→ e in
               until_stays q w (sym (committed_other h.accepted good g (name_at b.rows q) (other q w n)) ∙ d) v l ∙ ap (λ (z : ℕ). v upto z) (sym (c.untils q w n))
 
-      pub held_commit : breached numbers log' ≡ false → closed numbers log' ≡ false → until_at b'.rows p ≡ top → (until_at b'.rows 0 ≤ top) × (until_at b'.rows 0 ≤ until_at b.rows 0) → ((y : ℕ) → y < objects → sees_at b'.rows 0 y ≡ (if writer log y t then t else sees_at b.rows 0 y)) → Held log' top count b'
+      pub held_commit : breached numbers log' ≡ false → closed numbers log' ≡ false → until_at b'.rows p ≡ top → (until_at b'.rows 0 ≤ top) × (until_at b'.rows 0 ≤ until_at b.rows 0) → ((y : ℕ) → y < objects → sees_at b'.rows 0 y ≡ (provided writer log y t then t else sees_at b.rows 0 y)) → Held log' top count b'
       held_commit fine acyclic here bar newer =
           record {
             sized = c.sizes;
@@ -245,7 +245,7 @@ module _ {log log' : List ℕ} {top count k t x s : ℕ} {b : Table} (h : Held l
             row = rows_later;
             free = free_later;
             opened = opened_later;
-            last = λ y l. newer y l ∙ ap (λ (z : ℕ). if writer log y t then t else z) (h.last y l) ∙ sym (last_commits h.accepted good g y commit);
+            last = λ y l. newer y l ∙ ap (λ (z : ℕ). provided writer log y t then t else z) (h.last y l) ∙ sym (last_commits h.accepted good g y commit);
             until = λ q v d w l. rw (c.names q v) (until_later here q v (rw (c.names q v) at d) w l);
             bar = bar_later bar.1 (λ _. omega (arith, bar.0, here));
             edges = λ q r v w. rw (c.names q v, c.names r w) (edge_later q r v w);

@@ -1,12 +1,12 @@
 -- How many places are in use: as many as the log asks for.
 use mathlib.Core.Path.{◌≡◌, refl, sym, ap, ◌∙◌}
 use mathlib.Core.Bool.{Bool, true, false}
-use mathlib.Core.Logic.{◌⊎◌, ⊎_elim}
+use mathlib.Core.Logic.{⊎_elim}
 use mathlib.Core.List.{List}
 use Prim.Native.Nat.{ℕ, zero, suc, ◌≤◌, ◌<◌}
 use native.Mathlib.Omega.{arith}
 use Rattle.words.specs.Tests.{◌is◌, ◌upto◌, ◌and◌, ◌or◌, fails, count}
-use Rattle.words.proofs.Truth.{→and, or→, →fails, →isnt, upto→, →upto, →not_upto, if_true, if_false, count_without}
+use Rattle.words.proofs.Truth.{→and, or→, →fails, →isnt, upto→, →upto, →not_upto, provided_true, provided_false, count_without}
 use Rattle.words.proofs.Counting.{count_into}
 use Rattle.live.specs.SoFar.{numbers, is_open}
 use Rattle.live.specs.Forgotten.{kept}
@@ -21,8 +21,8 @@ use Rattle.live.proofs.KeepingLaws.{has_number}
 -- there are n numbers from 1 to n
 from_one : (n : ℕ) → count (suc n) (λ i. 1 upto i) ≡ n
 unfolding count
-from_one zero = if_false _ _ (→not_upto (omega arith))
-from_one (suc n) = if_true _ _ (→upto (omega arith)) ∙ ap suc (from_one n)
+from_one zero = provided_false _ _ (→not_upto (omega arith))
+from_one (suc n) = provided_true _ _ (→upto (omega arith)) ∙ ap suc (from_one n)
 
 module _ {log : List ℕ} {top n : ℕ} {b : Table} (y : Tidy log top n b) where
   -- who has a place by the log, and by the table

@@ -6,8 +6,8 @@ use mathlib.Core.List.{List}
 use Prim.Native.Nat.{ℕ, zero, suc, ◌≤◌, ◌<◌}
 use native.Mathlib.Omega.{arith}
 use native.Mathlib.Nat.{not-suc-le-zero}
-use Rattle.words.specs.Tests.{◌is◌, ◌below◌, ◌and◌, ◌or◌, fails}
-use Rattle.words.proofs.Truth.{decide, not_both, same_test, and→, →and, or→, →or_left, →or_right, fails→, →fails, is→, →is, isnt→, →isnt, if_true, if_false, some→, →some}
+use Rattle.words.specs.Tests.{◌is◌, ◌and◌, fails}
+use Rattle.words.proofs.Truth.{decide, not_both, same_test, and→, →and, or→, →or_left, →or_right, fails→, →fails, is→, →is, isnt→, →isnt, provided_true, provided_false, some→, →some}
 use Rattle.verdict.specs.Log.{steps, kind, tx, obj, src, reads, commits, committed, writer, begin_step, commit_step, commits_writer}
 use Rattle.verdict.specs.Log.{begun, wrote}
 use Rattle.verdict.specs.Clean.{judged, judged_other}
@@ -80,10 +80,10 @@ module _ {most : ℕ} {log : List ℕ} (ok : Accepted most log) where
     begin_early = begin_before log i (tx log i) (omega arith) begun_here
 
     own : wrote log i (tx log i) (obj log i) ≡ true → source_wanted log i ≡ tx log i
-    own w = wanted_is log i ∙ if_true _ _ w
+    own w = wanted_is log i ∙ provided_true _ _ w
 
     other : wrote log i (tx log i) (obj log i) ≡ false → source_wanted log i ≡ last_writer log (begin_step log (tx log i)) (obj log i)
-    other w = wanted_is log i ∙ if_false _ _ w
+    other w = wanted_is log i ∙ provided_false _ _ w
 
     -- the source wanted is 0, or wrote the object before
     wanted_wrote : (source_wanted log i ≡ 0 → ⊥) → wrote log i (source_wanted log i) (obj log i) ≡ true

@@ -6,8 +6,8 @@ use mathlib.Core.List.{List}
 use Prim.Native.Nat.{ℕ, ◌+◌, ◌-◌, ◌*◌, ◌≤◌, ◌<◌}
 use native.Mathlib.Omega.{arith}
 use lib.ListN.{length, set, length-set}
-use Rattle.words.specs.Tests.{◌is◌, ◌below◌, ◌and◌, fails, if◌then◌else◌, some}
-use Rattle.words.proofs.Truth.{decide, not_both, and→, →and, and_no_left, and_no_right, and_true_right, →fails, →not_fails, is→, isnt→, below→, →below, not_below→, if_true, if_false, none→}
+use Rattle.words.specs.Tests.{◌is◌, ◌below◌, ◌and◌, fails, provided◌then◌else◌, some}
+use Rattle.words.proofs.Truth.{decide, not_both, and→, →and, and_no_left, and_no_right, and_true_right, →fails, →not_fails, is→, isnt→, below→, →below, not_below→, provided_true, provided_false, none→}
 use Rattle.bits.specs.Word.{marked, more, less}
 use Rattle.bits.proofs.Marks.{marked_less}
 use Rattle.bits.proofs.Walks.{turned, unturned}
@@ -26,18 +26,18 @@ module _ (rows marks : List ℕ) (p t x s : ℕ) {w : ℕ} {own : Bool} (e : w �
   pub noted_after : own ≡ true → {rows' : List ℕ} → rows' ≡ noted_status rows p s t → NotesRead rows marks p t x s rows' marks
   noted_after o f = record { after_own = λ _. (f, refl); before_own = λ n. absurd (not_both (sym own_is ∙ o) n) }
 
-  pub noted_before : own ≡ false → {rows' : List ℕ} {r v q : ℕ} → r ≡ reads_at marks p → x < 64 → v ≡ (if x below 64 then more r x else r) → q ≡ sees_at rows p x → rows' ≡ noted_status rows p s q
+  pub noted_before : own ≡ false → {rows' : List ℕ} {r v q : ℕ} → r ≡ reads_at marks p → x < 64 → v ≡ (provided x below 64 then more r x else r) → q ≡ sees_at rows p x → rows' ≡ noted_status rows p s q
       → NotesRead rows marks p t x s rows' (set marks ((p - 1) * 2 + 1) v)
   noted_before o {rows'} {r} {v} {q} a l b c f =
       record {
         after_own = λ n. absurd (not_both n (sym own_is ∙ o));
-        before_own = λ _. (f ∙ ap (noted_status rows p s) c, ap (set marks ((p - 1) * 2 + 1)) (b ∙ if_true _ _ (→below l) ∙ ap (λ (z : ℕ). more z x) a));
+        before_own = λ _. (f ∙ ap (noted_status rows p s) c, ap (set marks ((p - 1) * 2 + 1)) (b ∙ provided_true _ _ (→below l) ∙ ap (λ (z : ℕ). more z x) a));
       }
 
 -- THE LAST WRITERS: t was put at those marked that are not left
 pub record Putting (rows : List ℕ) (marks t left : ℕ) (next : List ℕ) : Type 0 where
   pub size : length next ≡ length rows
-  pub last : (x : ℕ) → x < 64 → sees_at next 0 x ≡ (if marked marks x and fails (marked left x) then t else sees_at rows 0 x)
+  pub last : (x : ℕ) → x < 64 → sees_at next 0 x ≡ (provided marked marks x and fails (marked left x) then t else sees_at rows 0 x)
   pub part : (x : ℕ) → marked left x ≡ true → marked marks x ≡ true
   pub others : (q c : ℕ) → (q ≡ 0 → c < 66 → ⊥) → c < 67 → cell next q c ≡ cell rows q c
 
@@ -45,7 +45,7 @@ pub putting_none : (rows : List ℕ) (marks t : ℕ) → Putting rows marks t ma
 putting_none rows marks t =
     record {
       size = refl;
-      last = λ x l. sym (if_false _ _ (go x (decide (marked marks x))));
+      last = λ x l. sym (provided_false _ _ (go x (decide (marked marks x))));
       part = λ x h. h;
       others = λ q c h l. refl;
     }
@@ -65,20 +65,20 @@ module _ {rows next : List ℕ} {marks t left : ℕ} (c : Putting rows marks t l
         others = λ q d h k. stored_other next 0 (2 + y) i t q d (omega arith) (omega arith) k (λ (z : q ≡ 0) (f : d ≡ 2 + y). h z (omega arith)) ∙ c.others q d h k;
       }
     where
-      go : (x : ℕ) → x < 64 → ((x is y) ≡ true) ⊎ ((x is y) ≡ false) → cell (set next i t) 0 (2 + x) ≡ (if marked marks x and fails (marked (less left y) x) then t else cell rows 0 (2 + x))
+      go : (x : ℕ) → x < 64 → ((x is y) ≡ true) ⊎ ((x is y) ≡ false) → cell (set next i t) 0 (2 + x) ≡ (provided marked marks x and fails (marked (less left y) x) then t else cell rows 0 (2 + x))
       go x h (inl f) =
           let z : x ≡ y = is→ f in
-          rw z (stored_same next 0 (2 + y) i t (omega arith) (omega (arith, c.size)) ∙ sym (if_true _ _ (→and (c.part y m) (→fails (turned left y)))))
+          rw z (stored_same next 0 (2 + y) i t (omega arith) (omega (arith, c.size)) ∙ sym (provided_true _ _ (→and (c.part y m) (→fails (turned left y)))))
       go x h (inr f) =
           let n : x ≡ y → ⊥ = isnt→ f in
           stored_other next 0 (2 + y) i t 0 (2 + x) (omega arith) (omega arith) (omega arith) (λ _ (z : 2 + x ≡ 2 + y). n (omega arith)) ∙ c.last x h
-          ∙ ap (λ (b : Bool). if marked marks x and fails b then t else cell rows 0 (2 + x)) (sym (unturned left y x f))
+          ∙ ap (λ (b : Bool). provided marked marks x and fails b then t else cell rows 0 (2 + x)) (sym (unturned left y x f))
 
   pub putting_all : some 64 (marked left) ≡ false → PutsLast rows marks t next
   putting_all n =
       record {
         size = c.size;
-        last = λ x l. c.last x l ∙ ap (λ (b : Bool). if b then t else sees_at rows 0 x) (and_true_right _ (→fails (none→ (marked left) n x l)));
+        last = λ x l. c.last x l ∙ ap (λ (b : Bool). provided b then t else sees_at rows 0 x) (and_true_right _ (→fails (none→ (marked left) n x l)));
         others = c.others;
       }
 
@@ -88,9 +88,9 @@ module _ (rows : List ℕ) (top : ℕ) (size : length rows ≡ 8643) where
   unfolding lowered
   lowered_cases P low high = go (decide (top below until_at rows 0))
     where
-      go : ((top below until_at rows 0) ≡ true) ⊎ ((top below until_at rows 0) ≡ false) → P (if top below until_at rows 0 then set rows 66 top else rows)
-      go (inl e) = rw (if_true (set rows 66 top) rows e) (low (below→ e))
-      go (inr e) = rw (if_false (set rows 66 top) rows e) (high (not_below→ e))
+      go : ((top below until_at rows 0) ≡ true) ⊎ ((top below until_at rows 0) ≡ false) → P (provided top below until_at rows 0 then set rows 66 top else rows)
+      go (inl e) = rw (provided_true (set rows 66 top) rows e) (low (below→ e))
+      go (inr e) = rw (provided_false (set rows 66 top) rows e) (high (not_below→ e))
 
   pub lowered_size : length (lowered rows top) ≡ 8643
   lowered_size = lowered_cases (λ r. length r ≡ 8643) (λ _. length-set rows 66 top ∙ size) (λ _. size)
@@ -116,7 +116,7 @@ settled {b} {rows = rows} {p = p} {t = t} {top = top} size low high e j c {rows'
       status = lower p 1 (omega arith) (λ (z : p ≡ 0) _. omega arith) ∙ stored_other (set rows (p * 67 + 1) 2) p 66 (p * 67 + 66) top p 1 refl (omega arith) (omega arith) (λ _ (z : ◌≡◌ {A = ℕ} 1 66). omega arith) ∙ stored_same rows p 1 (p * 67 + 1) 2 refl (omega (arith, c.size, size.rows));
       until = lower p 66 (omega arith) (λ (z : p ≡ 0) _. omega arith) ∙ stored_same (set rows (p * 67 + 1) 2) p 66 (p * 67 + 66) top refl (omega (arith, c.size, size.rows, length-set rows (p * 67 + 1) 2));
       bar = bar;
-      last = λ x l. lower 0 (2 + x) (omega arith) (λ _ (z : 2 + x ≡ 66). omega arith) ∙ both 0 (2 + x) (omega arith) (λ (z : 0 ≡ p) _. omega arith) (λ (z : 0 ≡ p) _. omega arith) ∙ c.last x l ∙ ap (λ (v : ℕ). if marked v x then t else cell b.rows 0 (2 + x)) e;
+      last = λ x l. lower 0 (2 + x) (omega arith) (λ _ (z : 2 + x ≡ 66). omega arith) ∙ both 0 (2 + x) (omega arith) (λ (z : 0 ≡ p) _. omega arith) (λ (z : 0 ≡ p) _. omega arith) ∙ c.last x l ∙ ap (λ (v : ℕ). provided marked v x then t else cell b.rows 0 (2 + x)) e;
       others = λ q d h l m n. lower q d l (λ (z : q ≡ 0) _. omega arith) ∙ both q d l m n ∙ c.others q d (λ (z : q ≡ 0) _. omega arith) l;
     }
   where

@@ -5,8 +5,8 @@ use mathlib.Core.Logic.{◌⊎◌, inl, inr, ⊎_elim}
 use mathlib.Core.List.{List}
 use Prim.Native.Nat.{ℕ, suc, ◌≤◌, ◌<◌}
 use native.Mathlib.Omega.{arith}
-use Rattle.words.specs.Tests.{◌is◌, ◌below◌, ◌upto◌, ◌and◌, ◌or◌, fails}
-use Rattle.words.proofs.Truth.{decide, not_both, to_false, same_test, and→, →and, and_true_right, and_no_left, or→, →or_right, fails→, →fails, is→, →is, isnt→, →isnt, below→, →below, upto→, →upto, if_false, some→, →some}
+use Rattle.words.specs.Tests.{◌is◌, ◌below◌, ◌upto◌, ◌and◌, fails}
+use Rattle.words.proofs.Truth.{decide, not_both, to_false, same_test, and→, →and, and_true_right, and_no_left, or→, →or_right, fails→, →fails, is→, →is, isnt→, →isnt, below→, →below, upto→, →upto, provided_false, some→, →some}
 use Rattle.graph.specs.Matrix.{in_row}
 use Rattle.graph.specs.Reach.{Way, stay, onward, row_edge}
 use Rattle.verdict.specs.Log.{steps, committed, begin_step, commit_step}
@@ -138,7 +138,7 @@ module _ {log : List ℕ} {top count : ℕ} {b : Table} {keeps : ℕ → Bool} (
               rows = refl;
               marks = refl;
               opens = λ q v d. refl;
-              opened = h.opened p u ∙ if_false _ _ (to_false _ (λ o. not_both done (open_uncommitted h.accepted _ o)));
+              opened = h.opened p u ∙ provided_false _ _ (to_false _ (λ o. not_both done (open_uncommitted h.accepted _ o)));
               edges = λ q w d e. c.each w q ∙ and_true_right _ (→fails (and_no_left _ (→isnt d)));
               none = no_mark;
             }

@@ -6,8 +6,8 @@ use mathlib.Core.List.{List}
 use Prim.Native.Nat.{ℕ, suc, ◌+◌, ◌-◌, ◌≤◌, ◌<◌}
 use native.Mathlib.Omega.{arith}
 use lib.ListN.{length, get_or, set, length-set}
-use Rattle.words.specs.Tests.{◌is◌, ◌below◌, ◌upto◌, ◌and◌, ◌or◌, fails, if◌then◌else◌, some}
-use Rattle.words.proofs.Truth.{decide, not_both, to_false, same_test, and→, →and, and_no_left, and_no_right, fails→, →fails, →not_fails, is→, →is, isnt→, →isnt, below→, →below, not_below→, upto→, →upto, →not_upto, if_true, if_false, some_same}
+use Rattle.words.specs.Tests.{◌is◌, ◌below◌, ◌upto◌, ◌and◌, fails, provided◌then◌else◌, some}
+use Rattle.words.proofs.Truth.{decide, not_both, to_false, same_test, and→, →and, and_no_left, and_no_right, fails→, →fails, →not_fails, is→, →is, isnt→, →isnt, below→, →below, not_below→, upto→, →upto, →not_upto, provided_true, provided_false, some_same}
 use Rattle.graph.specs.Matrix.{takes_part, in_row, Drops}
 use Rattle.graph.proofs.RowLaws.{no_row}
 use Rattle.live.specs.Inner.Table.{status_at, until_at, open_at}
@@ -25,7 +25,7 @@ pub least_none : (opened : List ℕ) → LeastOpen opened 0 0
 least_none opened = record { least = λ p u l. absurd (omega (arith, u.0, u.1)); there = λ l. absurd (omega arith) }
 
 -- one place more, where b is the number open at it
-pub least_more : {opened : List ℕ} {i a b r : ℕ} → LeastOpen opened i a → b ≡ open_at opened (suc i) → r ≡ (if b is 0 then a else if a is 0 then b else if b below a then b else a) → LeastOpen opened (i + 1) r
+pub least_more : {opened : List ℕ} {i a b r : ℕ} → LeastOpen opened i a → b ≡ open_at opened (suc i) → r ≡ (provided b is 0 then a else provided a is 0 then b else provided b below a then b else a) → LeastOpen opened (i + 1) r
 least_more {opened} {i} {a} {b} {r} o here e = record { least = least; there = there }
   where
     -- r is a or b, and at most either that is there
@@ -33,15 +33,15 @@ least_more {opened} {i} {a} {b} {r} o here e = record { least = least; there = t
     bound = go (decide (b is 0)) (decide (a is 0)) (decide (b below a))
       where
         go : ((b is 0) ≡ true) ⊎ ((b is 0) ≡ false) → ((a is 0) ≡ true) ⊎ ((a is 0) ≡ false) → ((b below a) ≡ true) ⊎ ((b below a) ≡ false) → ((r ≡ a) ⊎ ((r ≡ b) × (1 ≤ b))) × (1 ≤ a → (1 ≤ r) × (r ≤ a)) × (1 ≤ b → (1 ≤ r) × (r ≤ b))
-        go (inl x) y z = let f : r ≡ a = e ∙ if_true _ _ x in let g : b ≡ 0 = is→ x in (inl f, λ l. (omega arith, omega arith), λ l. absurd (omega arith))
-        go (inr x) (inl y) z = let f : r ≡ b = e ∙ if_false _ _ x ∙ if_true _ _ y in let g : a ≡ 0 = is→ y in let k = one_up (isnt→ x) in (inr (f, k), λ l. absurd (omega arith), λ l. (omega arith, omega arith))
+        go (inl x) y z = let f : r ≡ a = e ∙ provided_true _ _ x in let g : b ≡ 0 = is→ x in (inl f, λ l. (omega arith, omega arith), λ l. absurd (omega arith))
+        go (inr x) (inl y) z = let f : r ≡ b = e ∙ provided_false _ _ x ∙ provided_true _ _ y in let g : a ≡ 0 = is→ y in let k = one_up (isnt→ x) in (inr (f, k), λ l. absurd (omega arith), λ l. (omega arith, omega arith))
         go (inr x) (inr y) (inl z) =
-            let f : r ≡ b = e ∙ if_false _ _ x ∙ if_false _ _ y ∙ if_true _ _ z in
+            let f : r ≡ b = e ∙ provided_false _ _ x ∙ provided_false _ _ y ∙ provided_true _ _ z in
             let g = below→ z in
             let k = one_up (isnt→ x) in
             (inr (f, k), λ l. (omega arith, omega arith), λ l. (omega arith, omega arith))
         go (inr x) (inr y) (inr z) =
-            let f : r ≡ a = e ∙ if_false _ _ x ∙ if_false _ _ y ∙ if_false _ _ z in
+            let f : r ≡ a = e ∙ provided_false _ _ x ∙ provided_false _ _ y ∙ provided_false _ _ z in
             let g = not_below→ z in
             let k = one_up (isnt→ y) in
             (inl f, λ l. (omega arith, omega arith), λ l. (omega arith, omega arith))

@@ -5,7 +5,7 @@ use mathlib.Core.Logic.{◌⊎◌, inl, inr, ⊎_elim}
 use mathlib.Core.List.{List}
 use Prim.Native.Nat.{ℕ, ◌<◌}
 use native.Mathlib.Omega.{arith}
-use Rattle.words.specs.Tests.{◌is◌, ◌and◌, ◌or◌, fails, if◌then◌else◌}
+use Rattle.words.specs.Tests.{◌is◌, ◌and◌, ◌or◌, fails, provided◌then◌else◌}
 use Rattle.words.proofs.Truth.{decide, not_both, same_test, and→, →and, and_no_left, and_no_right, or→, →or_left, →or_right, or_no, →fails, →not_fails, is→, →is, →isnt}
 use Rattle.bits.specs.Word.{marked, more}
 use Rattle.bits.proofs.Marks.{no_mark, marked_more}
@@ -98,7 +98,7 @@ module _ {most k t x s : ℕ} {log log' : List ℕ} (ok : Accepted most log) (go
 
     -- A READ: after an own write the source is the reader, and before it is what the reader sees
     module _ (e : k ≡ 2) where
-      wrong_now : misreads log' t ≡ (misreads log t or fails (s is (if writer log x t then t else seen log t x)))
+      wrong_now : misreads log' t ≡ (misreads log t or fails (s is (provided writer log x t then t else seen log t x)))
       wrong_now =
           misreads_grows ok good g t
           ∙ ap (λ (b : Bool). misreads log t or b) (same_test (λ h. rw (wanted_here ok good g e) at (and→ h).1) (λ h. →and (→and (→is e) (→is refl)) (rw (wanted_here ok good g e) h)))
@@ -137,10 +137,10 @@ module _ {most k t x s : ℕ} {log log' : List ℕ} (ok : Accepted most log) (go
               (λ h. ⊎_elim (λ q. →or_right _ (r.reading y l ∙ q)) (λ q. →or_left _ (→is (sym (is→ {m = x} {n = y} (and→ q).0)))) (or→ h))
 
       -- the source is right, and the status stays; or it is wrong, and the status says so
-      pub row_right : (reads' : ℕ) → ((y : ℕ) → y < objects → marked reads' y ≡ reads_first log' y t) → s ≡ (if writer log x t then t else seen log t x) → Row log' t status sees writes reads'
+      pub row_right : (reads' : ℕ) → ((y : ℕ) → y < objects → marked reads' y ≡ reads_first log' y t) → s ≡ (provided writer log x t then t else seen log t x) → Row log' t status sees writes reads'
       row_right reads' m q = read_row status reads' (r.done ∙ good_uncommitted ok good) (λ o. r.wrong o ∙ sym (wrong_now ∙ or_no _ (→not_fails (→is q)))) m
 
-      pub row_wrong : (reads' : ℕ) → ((y : ℕ) → y < objects → marked reads' y ≡ reads_first log' y t) → (s ≡ (if writer log x t then t else seen log t x) → ⊥) → Row log' t 1 sees writes reads'
+      pub row_wrong : (reads' : ℕ) → ((y : ℕ) → y < objects → marked reads' y ≡ reads_first log' y t) → (s ≡ (provided writer log x t then t else seen log t x) → ⊥) → Row log' t 1 sees writes reads'
       row_wrong reads' m q = read_row 1 reads' (→isnt (λ (z : ◌≡◌ {A = ℕ} 1 2). omega arith)) (λ o. →is refl ∙ sym (wrong_now ∙ →or_right _ (→fails (→isnt q)))) m
 
     -- AN ABORT

@@ -3,7 +3,7 @@ use mathlib.Core.Path.{◌≡◌, refl, sym, ap, ◌∙◌}
 use mathlib.Core.List.{List, [], ◌∷◌, map}
 use Prim.Native.Nat.{ℕ}
 use lib.ListN.{get_or, get_or-map}
-use Rattle.words.specs.Tests.{◌is◌, ◌below◌, ◌upto◌, ◌and◌, ◌or◌, fails, if◌then◌else◌, some, count, lowest, highest}
+use Rattle.words.specs.Tests.{◌is◌, ◌below◌, ◌upto◌, ◌and◌, ◌or◌, fails, provided◌then◌else◌, some, count, lowest, highest}
 use Rattle.verdict.specs.Log.{steps, kind, tx, obj, src, begins, reads, writes, commits, aborts, begun, ended, wrote, committed, writer, write_one_object, begin_step, commit_step, commits_writer}
 use Rattle.verdict.specs.Refusal.{object_allowed}
 use Rattle.verdict.specs.Clean.{judged, judged_other, after_own_write}
@@ -100,7 +100,7 @@ table =
 
 -- the one computed equation
 pub table_right : map outcome table ≡ map (λ s. s.expected) table
-unfolding b r w c a sample table outcome ◌is◌ ◌below◌ ◌upto◌ ◌and◌ ◌or◌ fails if◌then◌else◌ some count lowest highest
+unfolding b r w c a sample table outcome ◌is◌ ◌below◌ ◌upto◌ ◌and◌ ◌or◌ fails provided◌then◌else◌ some count lowest highest
     steps kind tx obj src begins reads writes commits aborts begun ended wrote committed writer write_one_object begin_step commit_step commits_writer
     object_allowed judged judged_other after_own_write writer_number snapshot_step last_commit last_committed wanted wrong_read overlap clash wrong_commit
     some_dependency versions_from next_commit next_version writer_to_next source_to_reader reader_to_next version_on version_edge

@@ -5,8 +5,8 @@ use mathlib.Core.Logic.{◌⊎◌, inl, inr, ⊎_elim}
 use mathlib.Core.List.{List}
 use Prim.Native.Nat.{ℕ, suc, ◌≤◌, ◌<◌}
 use native.Mathlib.Omega.{arith}
-use Rattle.words.specs.Tests.{◌is◌, ◌below◌, ◌upto◌, ◌and◌, ◌or◌, if◌then◌else◌, some, lowest}
-use Rattle.words.proofs.Truth.{decide, not_both, to_false, same_test, and→, →and, or→, →or_left, →or_right, fails→, →fails, is→, →is, isnt→, →isnt, below→, →below, not_below→, upto→, →upto, if_true, if_false, some→, →some, none→, lowest_is, lowest_at, lowest_passes, lowest_le}
+use Rattle.words.specs.Tests.{◌is◌, ◌below◌, ◌upto◌, ◌and◌, ◌or◌, provided◌then◌else◌, some, lowest}
+use Rattle.words.proofs.Truth.{decide, not_both, to_false, same_test, and→, →and, or→, →or_left, →or_right, fails→, →fails, is→, →is, isnt→, →isnt, below→, →below, not_below→, upto→, →upto, provided_true, provided_false, some→, →some, none→, lowest_is, lowest_at, lowest_passes, lowest_le}
 use Rattle.verdict.specs.Limits.{objects}
 use Rattle.verdict.specs.Log.{steps, kind, tx, obj, src, begins, reads, writes, begun, wrote, commits, committed, writer, begin_step, commit_step, commits_writer}
 use Rattle.verdict.specs.Clean.{judged}
@@ -230,13 +230,13 @@ module _ {most : ℕ} {log : List ℕ} (ok : Accepted most log) where
     unfolding judged reads reads_first seen
     named i h j = record { kind_is = is→ (and→ j).0; reader = (and→ j).1; names = go (decide (wrote log i (tx log i) (obj log i))) }
       where
-        e : src log i ≡ (if wrote log i (tx log i) (obj log i) then tx log i else seen log (tx log i) (obj log i))
+        e : src log i ≡ (provided wrote log i (tx log i) (obj log i) then tx log i else seen log (tx log i) (obj log i))
         e = right_read i h (unfold judged reads in j) ∙ wanted_is log i
 
         go : (wrote log i (tx log i) (obj log i) ≡ true) ⊎ (wrote log i (tx log i) (obj log i) ≡ false)
             → ((wrote log i (tx log i) (obj log i) ≡ true) × (src log i ≡ tx log i)) ⊎ ((reads_first log (obj log i) (tx log i) ≡ true) × (src log i ≡ seen log (tx log i) (obj log i)))
-        go (inl w) = inl (w, e ∙ if_true _ _ w)
-        go (inr w) = inr (→some _ i h (→and (→and (→and (and→ j).0 (→is refl)) (→is refl)) (→fails w)), e ∙ if_false _ _ w)
+        go (inl w) = inl (w, e ∙ provided_true _ _ w)
+        go (inr w) = inr (→some _ i h (→and (→and (→and (and→ j).0 (→is refl)) (→is refl)) (→fails w)), e ∙ provided_false _ _ w)
 
     -- a first read of one that committed names what the reader sees
     first_read : (x t : ℕ) → committed log t ≡ true → reads_first log x t ≡ true → (i : ℕ) × (i < steps log) × (judged log i ≡ true) × (obj log i ≡ x) × (tx log i ≡ t) × (src log i ≡ seen log t x)
@@ -250,7 +250,7 @@ module _ {most : ℕ} {log : List ℕ} (ok : Accepted most log) where
         let e : tx log i ≡ t = is→ d.1 in
         let f : obj log i ≡ x = is→ b.1 in
         let j : judged log i ≡ true = →and d.0 (rw e c) in
-        (i, r.1, j, f, e, right_read i r.1 j ∙ wanted_is log i ∙ if_false _ _ (rw (e, f) (fails→ a.1)) ∙ rw (e, f) refl)
+        (i, r.1, j, f, e, right_read i r.1 j ∙ wanted_is log i ∙ provided_false _ _ (rw (e, f) (fails→ a.1)) ∙ rw (e, f) refl)
 
     wrote_writer : (i t x : ℕ) → i ≤ steps log → wrote log i t x ≡ true → writer log x t ≡ true
     unfolding wrote writer

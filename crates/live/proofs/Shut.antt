@@ -6,8 +6,8 @@ use mathlib.Core.List.{List}
 use Prim.Native.Nat.{ℕ, zero, suc, ◌≤◌, ◌<◌}
 use native.Mathlib.Omega.{arith}
 use native.Mathlib.Nat.{not-suc-le-zero}
-use Rattle.words.specs.Tests.{◌is◌, ◌upto◌, ◌and◌, if◌then◌else◌}
-use Rattle.words.proofs.Truth.{decide, to_false, and→, is→, isnt→, upto→, not_upto→, if_true, if_false, some→}
+use Rattle.words.specs.Tests.{◌is◌, ◌upto◌, provided◌then◌else◌}
+use Rattle.words.proofs.Truth.{decide, to_false, and→, is→, isnt→, upto→, not_upto→, provided_true, provided_false, some→}
 use Rattle.verdict.specs.Log.{steps, tx, begins, begun}
 use Rattle.verdict.specs.Version.{version_edge}
 use Rattle.live.specs.SoFar.{more, is_open, shut, so_far}
@@ -78,10 +78,10 @@ module _ {most : ℕ} {log : List ℕ} (ok : Accepted most log) where
   behind zero = record { fine = ok; breaches = refl; edges = λ a b. refl; still = λ u h. refl; ended = λ u h. absurd (not-suc-le-zero h) }
   behind (suc m) = go (decide (is_open log m)) (behind m)
     where
-      go : (is_open log m ≡ true) ⊎ (is_open log m ≡ false) → Behind most log m (shut log m) → Behind most log (suc m) (if is_open log m then more (shut log m) 5 m 0 0 else shut log m)
-      go (inl o) b = rw (if_true (more (shut log m) 5 m 0 0) (shut log m) o) (abort_more m (shut log m) b o)
+      go : (is_open log m ≡ true) ⊎ (is_open log m ≡ false) → Behind most log m (shut log m) → Behind most log (suc m) (provided is_open log m then more (shut log m) 5 m 0 0 else shut log m)
+      go (inl o) b = rw (provided_true (more (shut log m) 5 m 0 0) (shut log m) o) (abort_more m (shut log m) b o)
       go (inr o) b =
-          rw (if_false (more (shut log m) 5 m 0 0) (shut log m) o)
+          rw (provided_false (more (shut log m) 5 m 0 0) (shut log m) o)
           (record { fine = b.fine; breaches = b.breaches; edges = b.edges; still = λ (u : ℕ) (h : suc m ≤ u). b.still u (omega arith); ended = λ u h. gone b u h (decide (u is m)) })
         where
           gone : Behind most log m (shut log m) → (u : ℕ) → u < suc m → ((u is m) ≡ true) ⊎ ((u is m) ≡ false) → is_open (shut log m) u ≡ false
@@ -115,11 +115,11 @@ module _ {most : ℕ} {log : List ℕ} (ok : Accepted most log) where
     so_far_closed = ap (λ (e : ℕ → ℕ → Bool). round e (suc most)) (fun_ext (λ a. fun_ext (so_far_edge a)))
 
   -- what a commit is told, by the steps accepted alone
-  pub commit_told : (full : List ℕ → Bool) → commit_says most full log ≡ (if breached most log then Breach else if closed most log then CycleClosed else Yes)
+  pub commit_told : (full : List ℕ → Bool) → commit_says most full log ≡ (provided breached most log then Breach else provided closed most log then CycleClosed else Yes)
   unfolding commit_says
   commit_told full = go (decide (breached most log))
     where
       go : (breached most log ≡ true) ⊎ (breached most log ≡ false)
-          → (if breached most (so_far most log) then Breach else if closed most (so_far most log) then CycleClosed else Yes) ≡ (if breached most log then Breach else if closed most log then CycleClosed else Yes)
-      go (inl b) = if_true _ _ (so_far_breached ∙ b) ∙ sym (if_true _ _ b)
+          → (provided breached most (so_far most log) then Breach else provided closed most (so_far most log) then CycleClosed else Yes) ≡ (provided breached most log then Breach else provided closed most log then CycleClosed else Yes)
+      go (inl b) = provided_true _ _ (so_far_breached ∙ b) ∙ sym (provided_true _ _ b)
       go (inr b) = rw (so_far_breached, so_far_closed b) refl

@@ -5,8 +5,8 @@ use mathlib.Core.Logic.{◌⊎◌, inl, inr, ⊎_elim}
 use mathlib.Core.List.{List}
 use Prim.Native.Nat.{ℕ, suc, ◌<◌}
 use native.Mathlib.Omega.{arith}
-use Rattle.words.specs.Tests.{◌is◌, ◌upto◌, ◌and◌, ◌or◌, fails, if◌then◌else◌}
-use Rattle.words.proofs.Truth.{decide, not_both, to_false, and→, →and, and_no_left, and_no_right, and_true, or→, →or_left, →or_right, or_no, →fails, is→, →is, →isnt, if_true, if_false, some→}
+use Rattle.words.specs.Tests.{◌is◌, ◌upto◌, ◌and◌, ◌or◌, fails, provided◌then◌else◌}
+use Rattle.words.proofs.Truth.{decide, not_both, to_false, and→, →and, and_no_left, and_no_right, and_true, or→, →or_left, →or_right, or_no, →fails, is→, →is, →isnt, provided_true, provided_false, some→}
 use Rattle.verdict.specs.Log.{steps, kind, tx, obj, src, reads, writes, begins, commits, aborts, begun, ended, wrote, committed, writer, begin_step, commits_writer}
 use Rattle.live.specs.SoFar.{is_open, passed}
 use Rattle.live.specs.Inner.Seen.{last_writer, seen, source_wanted, misreads, reads_first}
@@ -99,7 +99,7 @@ module _ {most k t x s : ℕ} {log log' : List ℕ} (ok : Accepted most log) (go
       no : commits_writer log' y (steps log) ≡ false
       no = unfold commits_writer in (and_no_left _ (→isnt (λ (q : kind log' (steps log) ≡ 4). n (sym g.kind_here ∙ q))))
 
-  pub last_commits : (y : ℕ) → k ≡ 4 → last_writer log' (steps log') y ≡ (if writer log y t then t else last_writer log (steps log) y)
+  pub last_commits : (y : ℕ) → k ≡ 4 → last_writer log' (steps log') y ≡ (provided writer log y t then t else last_writer log (steps log) y)
   last_commits y e = rw g.size (go (decide (writer log y t)))
     where
       same : writer log' y t ≡ writer log y t
@@ -108,12 +108,12 @@ module _ {most k t x s : ℕ} {log log' : List ℕ} (ok : Accepted most log) (go
       here : commits_writer log' y (steps log) ≡ writer log y t
       here = unfold commits_writer in (rw g.tx_here (and_true (→is (g.kind_here ∙ e)) ∙ same))
 
-      go : (writer log y t ≡ true) ⊎ (writer log y t ≡ false) → last_writer log' (suc (steps log)) y ≡ (if writer log y t then t else last_writer log (steps log) y)
-      go (inl w) = writer_here log' y (steps log) (here ∙ w) ∙ g.tx_here ∙ sym (if_true _ _ w)
-      go (inr w) = writer_before log' y (steps log) (here ∙ w) ∙ last_same g new y (steps log) (omega arith) ∙ sym (if_false _ _ w)
+      go : (writer log y t ≡ true) ⊎ (writer log y t ≡ false) → last_writer log' (suc (steps log)) y ≡ (provided writer log y t then t else last_writer log (steps log) y)
+      go (inl w) = writer_here log' y (steps log) (here ∙ w) ∙ g.tx_here ∙ sym (provided_true _ _ w)
+      go (inr w) = writer_before log' y (steps log) (here ∙ w) ∙ last_same g new y (steps log) (omega arith) ∙ sym (provided_false _ _ w)
 
   -- what a read should name
-  pub wanted_here : k ≡ 2 → source_wanted log' (steps log) ≡ (if writer log x t then t else seen log t x)
+  pub wanted_here : k ≡ 2 → source_wanted log' (steps log) ≡ (provided writer log x t then t else seen log t x)
   unfolding writer seen
   wanted_here e =
       let b : begun log (steps log) t ≡ true = (open→ log t (good.alive (λ (q : k ≡ 1). omega arith))).0 in

@@ -1,12 +1,12 @@
 -- An abort is taken: its place is given back, and whoever can go then is forgotten.
 use mathlib.Core.Path.{◌≡◌, refl, sym, ap, subst, ◌∙◌}
 use mathlib.Core.Bool.{Bool, false}
-use mathlib.Core.Logic.{◌⊎◌, inr, ⊎_elim}
+use mathlib.Core.Logic.{inr, ⊎_elim}
 use mathlib.Core.List.{List}
 use Prim.Native.Nat.{ℕ, ◌-◌, ◌≤◌}
 use native.Mathlib.Omega.{arith}
 use lib.ListN.{set, length-set}
-use Rattle.words.proofs.Truth.{not_both, to_false, if_false}
+use Rattle.words.proofs.Truth.{not_both, to_false, provided_false}
 use Rattle.verdict.specs.Log.{committed}
 use Rattle.live.specs.Answers.{Taken}
 use Rattle.live.specs.SoFar.{more}
@@ -42,7 +42,7 @@ module _ {log : List ℕ} {top count : ℕ} {b : Table} {k t x s p : ℕ} (h : H
   ended : Held (more log k t x s) top count Ended
   ended =
       held_inside h a.good a.grows a.whole p place a.named touched (row_abort h.accepted a.good a.grows a.row abort)
-      (open_here b.opened p 0 h.sized.opened place.0 place.1 ∙ sym (if_false _ _ (open_ended h.accepted a.good a.grows (inr abort)))) (λ (z : k ≡ 1). omega arith) no_commit refl (λ y l. refl) refl refl
+      (open_here b.opened p 0 h.sized.opened place.0 place.1 ∙ sym (provided_false _ _ (open_ended h.accepted a.good a.grows (inr abort)))) (λ (z : k ≡ 1). omega arith) no_commit refl (λ y l. refl) refl refl
     where
       touched : Touched b Ended p
       touched =

@@ -6,8 +6,8 @@ use mathlib.Core.List.{List}
 use Prim.Native.Nat.{ℕ, ◌+◌, ◌-◌, ◌≤◌}
 use native.Mathlib.Omega.{arith}
 use lib.ListN.{length, length-set}
-use Rattle.words.specs.Tests.{◌is◌, ◌upto◌, ◌and◌, ◌or◌, if◌then◌else◌}
-use Rattle.words.proofs.Truth.{same_test, and→, →and, if_false}
+use Rattle.words.specs.Tests.{◌is◌, ◌upto◌, ◌and◌, ◌or◌, provided◌then◌else◌}
+use Rattle.words.proofs.Truth.{same_test, and→, →and, provided_false}
 use Rattle.graph.specs.Matrix.{takes_part, in_row}
 use Rattle.graph.specs.Reach.{Reaches}
 use Rattle.live.specs.Answers.{Yes, Breach, CycleClosed, stands, answer_number}
@@ -76,8 +76,8 @@ module _ {log : List ℕ} {top count : ℕ} {b : Table} {k t x s p : ℕ} (h : H
       row =
           row_as (row_commit h.accepted a.good a.grows a.row commit) refl c.status (touched.seeings p place) (ap (λ (m : List ℕ). writes_at m p) same_marks) (ap (λ (m : List ℕ). reads_at m p) same_marks)
 
-      opened : open_at b'.opened p ≡ (if is_open (more log k t x s) t then t else 0)
-      opened = ap (λ (o : List ℕ). open_at o p) c.closes ∙ open_here b.opened p 0 h.sized.opened place.0 high ∙ sym (if_false _ _ (open_ended h.accepted a.good a.grows (inl commit)))
+      opened : open_at b'.opened p ≡ (provided is_open (more log k t x s) t then t else 0)
+      opened = ap (λ (o : List ℕ). open_at o p) c.closes ∙ open_here b.opened p 0 h.sized.opened place.0 high ∙ sym (provided_false _ _ (open_ended h.accepted a.good a.grows (inl commit)))
 
       -- those after it are among the places in use
       after_there : (r : ℕ) → (1 upto r and r upto count and takes_part 128 after r) ≡ takes_part 128 after r
@@ -90,7 +90,7 @@ module _ {log : List ℕ} {top count : ℕ} {b : Table} {k t x s p : ℕ} (h : H
       held_settled =
           held_commit h a.good a.grows a.whole p place a.named touched row opened (λ (z : k ≡ 1). omega arith) commit
           (at_commit h a.good a.grows a.whole commit p place a.named before after finds_before finds_after) edges fine open_edges c.until c.bar
-          (λ y l. c.last y l ∙ ap (λ (z : Bool). if z then t else sees_at b.rows 0 y) (a.row.writing y l))
+          (λ y l. c.last y l ∙ ap (λ (z : Bool). provided z then t else sees_at b.rows 0 y) (a.row.writing y l))
 
       pub kept_settled : {keeps : ℕ → Bool} → Keeping log b keeps → Keeping (more log k t x s) b' (λ v. keeps v or t is v)
       kept_settled m = keeping_commit h m a.good a.grows held_settled.accepted fine place a.named commit touched.names

@@ -6,8 +6,8 @@ use mathlib.Core.List.{List}
 use Prim.Native.Nat.{ℕ, ◌+◌, ◌-◌, ◌*◌, ◌≤◌, ◌<◌}
 use native.Mathlib.Omega.{arith}
 use lib.ListN.{length, set, length-set}
-use Rattle.words.specs.Tests.{◌is◌, if◌then◌else◌}
-use Rattle.words.proofs.Truth.{decide, is→, isnt→, if_true, if_false}
+use Rattle.words.specs.Tests.{◌is◌, provided◌then◌else◌}
+use Rattle.words.proofs.Truth.{decide, is→, isnt→, provided_true, provided_false}
 use Rattle.bits.specs.Word.{marked}
 use Rattle.bits.specs.Word as bits
 use Rattle.verdict.specs.Limits.{objects}
@@ -39,9 +39,9 @@ module _ (rows : List ℕ) (p s w : ℕ) (size : length rows ≡ 8643) (high : p
   unfolding noted_status
   cases P same other = go (decide (s is w))
     where
-      go : ((s is w) ≡ true) ⊎ ((s is w) ≡ false) → P (if s is w then rows else set rows (p * 67 + 1) 1)
-      go (inl e) = rw (if_true rows (set rows (p * 67 + 1) 1) e) (same (is→ e))
-      go (inr e) = rw (if_false rows (set rows (p * 67 + 1) 1) e) (other (isnt→ e))
+      go : ((s is w) ≡ true) ⊎ ((s is w) ≡ false) → P (provided s is w then rows else set rows (p * 67 + 1) 1)
+      go (inl e) = rw (provided_true rows (set rows (p * 67 + 1) 1) e) (same (is→ e))
+      go (inr e) = rw (provided_false rows (set rows (p * 67 + 1) 1) e) (other (isnt→ e))
 
   noted_size : length (noted_status rows p s w) ≡ 8643
   noted_size = cases (λ r. length r ≡ 8643) (λ _. size) (λ _. length-set rows (p * 67 + 1) 1 ∙ size)
@@ -81,8 +81,8 @@ module _ {log : List ℕ} {top count : ℕ} {b : Table} {k t x s p : ℕ} (h : H
   p_high : p ≤ 128
   p_high = place.1
 
-  still : open_at b.opened p ≡ t → (k ≡ 4 → ⊥) → (k ≡ 5 → ⊥) → open_at b.opened p ≡ (if is_open (more log k t x s) t then t else 0)
-  still here no_commit no_Abort = here ∙ sym (if_true _ _ (open_inside h.accepted a.good a.grows other no_commit no_Abort t ∙ a.alive))
+  still : open_at b.opened p ≡ t → (k ≡ 4 → ⊥) → (k ≡ 5 → ⊥) → open_at b.opened p ≡ (provided is_open (more log k t x s) t then t else 0)
+  still here no_commit no_Abort = here ∙ sym (provided_true _ _ (open_inside h.accepted a.good a.grows other no_commit no_Abort t ∙ a.alive))
 
   -- A READ
   module _ (here : open_at b.opened p ≡ t) (read : k ≡ 2) {rows' marks' : List ℕ} (n : NotesRead b.rows b.marks p t x s rows' marks') where
@@ -90,7 +90,7 @@ module _ {log : List ℕ} {top count : ℕ} {b : Table} {k t x s p : ℕ} (h : H
     object = a.good.in_objects (inl read)
 
     -- the rows and the marks as they are noted, with the source that is wanted
-    noted : (w : ℕ) → w ≡ (if writer log x t then t else seen log t x) → rows' ≡ noted_status b.rows p s w → length marks' ≡ 256
+    noted : (w : ℕ) → w ≡ (provided writer log x t then t else seen log t x) → rows' ≡ noted_status b.rows p s w → length marks' ≡ 256
         → ((q : ℕ) → Place places q → writes_at marks' q ≡ writes_at b.marks q) → ((q : ℕ) → Place places q → (q ≡ p → ⊥) → reads_at marks' q ≡ reads_at b.marks q)
         → ((y : ℕ) → y < objects → marked (reads_at marks' p) y ≡ reads_first (more log k t x s) y t) → Held (more log k t x s) top count (table b.opened rows' marks' b.edges)
     unfolding name_at status_at sees_at until_at
@@ -130,12 +130,12 @@ module _ {log : List ℕ} {top count : ℕ} {b : Table} {k t x s p : ℕ} (h : H
         go (inl o) =
             let w : writer log x t ≡ true = sym (a.row.writing x object) ∙ o in
             let r = n.after_own o in
-            noted t (sym (if_true _ _ w)) r.0 (ap length r.1 ∙ h.sized.marks) (λ q v. ap (λ (m : List ℕ). writes_at m q) r.1) (λ q v d. ap (λ (m : List ℕ). reads_at m q) r.1)
+            noted t (sym (provided_true _ _ w)) r.0 (ap length r.1 ∙ h.sized.marks) (λ q v. ap (λ (m : List ℕ). writes_at m q) r.1) (λ q v d. ap (λ (m : List ℕ). reads_at m q) r.1)
             (λ y l. ap (λ (m : List ℕ). marked (reads_at m p) y) r.1 ∙ marks_own h.accepted a.good a.grows a.row read w y l)
         go (inr o) =
             let w : writer log x t ≡ false = sym (a.row.writing x object) ∙ o in
             let r = n.before_own o in
-            noted (sees_at b.rows p x) (a.row.seeing x object ∙ sym (if_false _ _ w)) r.0 (ap length r.1 ∙ length-set b.marks ((p - 1) * 2 + 1) _ ∙ h.sized.marks)
+            noted (sees_at b.rows p x) (a.row.seeing x object ∙ sym (provided_false _ _ w)) r.0 (ap length r.1 ∙ length-set b.marks ((p - 1) * 2 + 1) _ ∙ h.sized.marks)
             (λ q v. ap (λ (m : List ℕ). writes_at m q) r.1 ∙ writes_read b.marks p _ q) (λ q v d. ap (λ (m : List ℕ). reads_at m q) r.1 ∙ reads_away b.marks p _ q place.0 v.0 d)
             (λ y l. ap (λ (m : List ℕ). marked (reads_at m p) y) r.1 ∙ ap (λ (z : ℕ). marked z y) (reads_here b.marks p _ h.sized.marks place.0 p_high) ∙ marks_first h.accepted a.good a.grows a.row read w y l)
 

@@ -6,8 +6,8 @@ use mathlib.Core.Logic.{◌⊎◌, inl, inr, ⊎_elim}
 use mathlib.Core.List.{List, [], ◌∷◌}
 use Prim.Native.Nat.{ℕ, suc, ◌<◌}
 use native.Mathlib.Omega.{arith}
-use Rattle.words.specs.Tests.{◌is◌, ◌below◌, ◌and◌, ◌or◌, fails, if◌then◌else◌, some, lowest}
-use Rattle.words.proofs.Truth.{decide, not_both, to_true, to_false, and→, →and, or→, →or_left, →or_right, fails→, →fails, →not_fails, is→, →is, isnt→, below→, if_true, if_false, some→, →some, →none, none→}
+use Rattle.words.specs.Tests.{◌is◌, ◌below◌, ◌and◌, ◌or◌, fails, provided◌then◌else◌, some, lowest}
+use Rattle.words.proofs.Truth.{decide, not_both, to_true, to_false, and→, →and, or→, →or_left, →or_right, fails→, →fails, →not_fails, is→, →is, isnt→, below→, provided_true, provided_false, some→, →some, →none, none→}
 use Rattle.graph.specs.declared.Shape.{Shape}
 use Rattle.graph.specs.Shows as graph
 use Rattle.graph.specs.Shows.{Shows}
@@ -43,10 +43,10 @@ use Rattle.live.proofs.Answering.{says_commit}
 -- BREACH
 -- a fault is not yes
 fault_no : (most : ℕ) (log : List ℕ) (k : ℕ) → snapshot_fault most log k ≡ Snapshot.Yes → ⊥
-unfolding snapshot_fault if◌then◌else◌
+unfolding snapshot_fault provided◌then◌else◌
 fault_no most log k e = go (wrong_read log k) e
   where
-    go : (b : Bool) → (if b then Read k (wanted log k) else Write k (lowest (suc most) (clash log k))) ≡ Snapshot.Yes → ⊥
+    go : (b : Bool) → (provided b then Read k (wanted log k) else Write k (lowest (suc most) (clash log k))) ≡ Snapshot.Yes → ⊥
     go true e = let z : ◌≡◌ {A = ℕ} 0 1 = cc in omega arith
     go false e = let z : ◌≡◌ {A = ℕ} 0 1 = cc in omega arith
 
@@ -82,13 +82,13 @@ module _ (most : ℕ) (log : List ℕ) where
   -- a wrong step is a no
   wrong_no : (i : ℕ) → i < steps log → (wrong_read log i or wrong_commit most log i) ≡ true → snapshot_verdict most log ≡ Snapshot.Yes → ⊥
   unfolding snapshot_verdict wrong_step
-  wrong_no i l w v = fault_no most log _ (sym (if_true _ _ (→some _ i l w)) ∙ v)
+  wrong_no i l w v = fault_no most log _ (sym (provided_true _ _ (→some _ i l w)) ∙ v)
 
   -- no breach: the snapshot verdict is yes, and no judged read gets 9
   pub breach_no : breached most log ≡ false → (snapshot_verdict most log ≡ Snapshot.Yes) × NoNine log
   unfolding breached snapshot_verdict wrong_step misread
   breach_no h = (
-    if_false _ _ (→none _ (λ i l. to_false _ (λ q. not_both (⊎_elim (λ w. →or_left _ (→or_right _ w)) (λ w. →or_right _ w) (or→ q)) (none→ _ h i l)))),
+    provided_false _ _ (→none _ (λ i l. to_false _ (λ q. not_both (⊎_elim (λ w. →or_left _ (→or_right _ w)) (λ w. →or_right _ w) (or→ q)) (none→ _ h i l)))),
     λ i l j. no_nine log i (to_false _ (λ q. not_both (→or_left _ (→or_left _ (→and j q))) (none→ _ h i l))),
   )
 
@@ -131,7 +131,7 @@ module _ {most : ℕ} {log : List ℕ} (ok : Accepted most log) (fine : breached
   unfolding judged_other judged reads after_own_write final_source writes_later
   right_source i h o = go (decide (wrote log i (tx log i) (obj log i)))
     where
-      e : src log i ≡ (if wrote log i (tx log i) (obj log i) then tx log i else last_writer log (begin_step log (tx log i)) (obj log i))
+      e : src log i ≡ (provided wrote log i (tx log i) (obj log i) then tx log i else last_writer log (begin_step log (tx log i)) (obj log i))
       e = right_read ok fine i h (unfold judged reads in (and→ o).0) ∙ wanted_is log i
 
       k : kind log i ≡ 2
@@ -150,14 +150,14 @@ module _ {most : ℕ} {log : List ℕ} (ok : Accepted most log) (fine : breached
 
       go : (wrote log i (tx log i) (obj log i) ≡ true) ⊎ (wrote log i (tx log i) (obj log i) ≡ false)
           → (wrote log i (tx log i) (obj log i) ≡ false) × ((src log i is 0 or (committed log (src log i) and fails (some (steps log) (λ m. i below m and writes log (src log i) (obj log i) m)))) ≡ true)
-      go (inl w) = absurd (isnt→ (fails→ (and→ o).1) (e ∙ if_true _ _ w))
+      go (inl w) = absurd (isnt→ (fails→ (and→ o).1) (e ∙ provided_true _ _ w))
       go (inr w) =
-          let z : src log i ≡ last_writer log (begin_step log (tx log i)) (obj log i) = e ∙ if_false _ _ w in
+          let z : src log i ≡ last_writer log (begin_step log (tx log i)) (obj log i) = e ∙ provided_false _ _ w in
           (w, rw z (found (last_cases ok (obj log i) (begin_step log (tx log i)) (omega (arith, early)))))
 
   pub fine_clean : cleanness log ≡ Cleanness.Yes
   unfolding cleanness is_clean faulty_read own_fault source_fault
-  fine_clean = if_true _ _ (→fails (→none _ (λ i h. to_false _ (λ q.
+  fine_clean = provided_true _ _ (→fails (→none _ (λ i h. to_false _ (λ q.
       ⊎_elim (λ a. not_both (and→ a).1 (right_source i h (and→ a).0).0) (λ a. not_both (right_source i h (and→ a).0).1 (fails→ (and→ a).1)) (or→ q)))))
 
   -- what is shown of the version edges
@@ -209,10 +209,10 @@ module _ {most : ℕ} (full : List ℕ → Bool) {log : List ℕ} (ok : Accepted
       l : List ℕ
       l = so_far most log
 
-      go : (breached most l ≡ true) ⊎ (breached most l ≡ false) → (closed most l ≡ true) ⊎ (closed most l ≡ false) → Verdicts most l (if breached most l then Breach else if closed most l then CycleClosed else Yes)
-      go (inl b) c = rw b (unfold if◌then◌else◌ in (says_breach (breach_wrong most l b)))
-      go (inr b) (inl c) = rw (b, c) (unfold if◌then◌else◌ in (says_closed (λ w. not_both (wrong_breach most l w) b) (closed_shows (so_far_accepted ok) b c).1))
-      go (inr b) (inr c) = rw (b, c) (unfold if◌then◌else◌ in (says_yes (λ w. not_both (wrong_breach most l w) b) (open_shows (so_far_accepted ok) b c).1))
+      go : (breached most l ≡ true) ⊎ (breached most l ≡ false) → (closed most l ≡ true) ⊎ (closed most l ≡ false) → Verdicts most l (provided breached most l then Breach else provided closed most l then CycleClosed else Yes)
+      go (inl b) c = rw b (unfold provided◌then◌else◌ in (says_breach (breach_wrong most l b)))
+      go (inr b) (inl c) = rw (b, c) (unfold provided◌then◌else◌ in (says_closed (λ w. not_both (wrong_breach most l w) b) (closed_shows (so_far_accepted ok) b c).1))
+      go (inr b) (inr c) = rw (b, c) (unfold provided◌then◌else◌ in (says_yes (λ w. not_both (wrong_breach most l w) b) (open_shows (so_far_accepted ok) b c).1))
 
   -- a commit, where `log` has it as its last step, is answered a exactly where the verdicts over the log so far say a
   pub commit_exactly : (a : Said) → (commit_says most full log ≡ a → Verdicts most (so_far most log) a) × (Verdicts most (so_far most log) a → commit_says most full log ≡ a)
@@ -231,10 +231,10 @@ module _ (most : ℕ) (full : List ℕ → Bool) where
   after_reached k t x s (still {log} ok) = go (decide (number most full log k t x s is 0)) (decide (stands (good_says most full k (more log k t x s))))
     where
       go : ((number most full log k t x s is 0) ≡ true) ⊎ ((number most full log k t x s is 0) ≡ false) → (stands (good_says most full k (more log k t x s)) ≡ true) ⊎ (stands (good_says most full k (more log k t x s)) ≡ false)
-          → Reached most (if fails (number most full log k t x s is 0) then going log else if stands (good_says most full k (more log k t x s)) then over (good_says most full k (more log k t x s)) else going (more log k t x s))
-      go (inr n) q = subst (Reached most) (sym (if_true _ _ (→fails n))) (still ok)
-      go (inl n) (inl q) = subst (Reached most) (sym (if_false _ _ (→not_fails n) ∙ if_true _ _ q)) ended_with
-      go (inl n) (inr q) = subst (Reached most) (sym (if_false _ _ (→not_fails n) ∙ if_false _ _ q)) (still (accepted_more s ok (good_step full log k t x s (is→ n))))
+          → Reached most (provided fails (number most full log k t x s is 0) then going log else provided stands (good_says most full k (more log k t x s)) then over (good_says most full k (more log k t x s)) else going (more log k t x s))
+      go (inr n) q = subst (Reached most) (sym (provided_true _ _ (→fails n))) (still ok)
+      go (inl n) (inl q) = subst (Reached most) (sym (provided_false _ _ (→not_fails n) ∙ provided_true _ _ q)) ended_with
+      go (inl n) (inr q) = subst (Reached most) (sym (provided_false _ _ (→not_fails n) ∙ provided_false _ _ q)) (still (accepted_more s ok (good_step full log k t x s (is→ n))))
 
   all_reached : {j : State} (run : List ℕ) → Reached most j → Reached most (after_all most full j run)
   unfolding after_all

@@ -1,6 +1,6 @@
 -- The log so far: the steps accepted until now, and behind them an abort for each transaction still open. Transactions are at most `most`.
 use Rattle.std.specs.Prelude.{Bool, List, [], ◌∷◌, ◌++◌, ℕ, zero, suc}
-use Rattle.words.specs.Tests.{◌is◌, ◌upto◌, ◌and◌, fails, if◌then◌else◌, some}
+use Rattle.words.specs.Tests.{◌is◌, ◌upto◌, ◌and◌, fails, provided◌then◌else◌, some}
 use Rattle.verdict.specs.Log.{steps, kind, tx, begun, ended}
 
 -- numbers of transactions are 1..65,535 here
@@ -23,7 +23,7 @@ module _ (log : List ℕ) where
   -- an abort behind the log for each open transaction below n
   unfoldable pub shut : ℕ → List ℕ
   shut zero = log
-  shut (suc n) = if is_open n then more (shut n) 5 n 0 0 else shut n
+  shut (suc n) = provided is_open n then more (shut n) 5 n 0 0 else shut n
 
 unfoldable pub so_far : ℕ → List ℕ → List ℕ
 so_far most log = shut log (suc most)

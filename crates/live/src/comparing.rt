@@ -1,6 +1,6 @@
 // What two rows see, compared.
 ghost use Rattle.std.specs.Prelude.{◌≡◌, ℕ, ◌≤◌, ◌<◌, length};
-ghost use Rattle.words.specs.Tests.{◌is◌, ◌and◌, if◌then◌else◌};
+ghost use Rattle.words.specs.Tests.{◌is◌, ◌and◌, provided◌then◌else◌};
 ghost use Rattle.bits.specs.Word.{marked, less};
 ghost use Rattle.live.specs.Inner.Table.{row_numbers, sees_at};
 
@@ -9,7 +9,7 @@ use bits::{any_mark, lowest_mark, without_mark};
 
 // The marks, without x where what is seen of it differs.
 fn agreeing(marks: u64, x: usize, a: u16, b: u16) -> u64
-    ensures { result ≡ (if a is b then marks else less marks x) }
+    ensures { result ≡ (provided a is b then marks else less marks x) }
 {
     if a == b {
         return marks;

@@ -13,7 +13,7 @@ mod step;
 mod table;
 
 ghost use Rattle.std.specs.Prelude.{◌≡◌};
-ghost use Rattle.words.specs.Tests.{◌upto◌, if◌then◌else◌};
+ghost use Rattle.words.specs.Tests.{◌upto◌, provided◌then◌else◌};
 ghost use Rattle.live.specs.Kept.{places};
 ghost use Rattle.live.specs.LiveCall.{buffers, LiveCall};
 ghost use Rattle.live.specs.Inner.Parts.{CallNumber};
@@ -76,7 +76,7 @@ fn call_number(
 
 // How many places there are to look at, as the state says it; never more than there are.
 fn places_used(count: u16) -> usize
-    ensures { result ≡ (if count upto places then count else places) }
+    ensures { result ≡ (provided count upto places then count else places) }
 {
     if count <= 128 {
         return count as usize;

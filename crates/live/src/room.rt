@@ -1,6 +1,6 @@
 // Room given back: a place whose transaction can go is free again, until nothing more can go.
 ghost use Rattle.std.specs.Prelude.{◌≡◌, List, ℕ, suc, ◌≤◌, length};
-ghost use Rattle.words.specs.Tests.{◌is◌, ◌below◌, if◌then◌else◌};
+ghost use Rattle.words.specs.Tests.{◌is◌, ◌below◌, provided◌then◌else◌};
 ghost use Rattle.live.specs.Inner.Table.{opened_entries, row_numbers, edge_words};
 ghost use Rattle.live.specs.Inner.Took.{table};
 ghost use Rattle.live.specs.Inner.Forgetting.{LeastOpen, still_overlapped, can_go, freed, Leaves, Looks, Passes, LastUsed, Forgot, GivesBack};
@@ -11,7 +11,7 @@ use graph::{any, lent_drop, lent_row};
 
 // The lower of two numbers, where 0 is none.
 fn lower(a: u16, b: u16) -> u16
-    ensures { result ≡ (if b is 0 then a else if a is 0 then b else if b below a then b else a) }
+    ensures { result ≡ (provided b is 0 then a else provided a is 0 then b else provided b below a then b else a) }
 {
     if b == 0 {
         return a;

@@ -1,6 +1,6 @@
 // One step: its number, or what the rows and the small part of the state take of it, and its answer.
 ghost use Rattle.std.specs.Prelude.{◌≡◌, List, ℕ, ◌≤◌, length};
-ghost use Rattle.words.specs.Tests.{◌is◌, ◌below◌, ◌or◌, if◌then◌else◌};
+ghost use Rattle.words.specs.Tests.{◌is◌, ◌below◌, ◌or◌, provided◌then◌else◌};
 ghost use Rattle.live.specs.Kept.{places};
 ghost use Rattle.live.specs.Inner.Table.{Sized, opened_entries, row_numbers, mark_words, edge_words, open_at};
 ghost use Rattle.live.specs.Inner.Held.{Place};
@@ -35,7 +35,7 @@ pub(crate) struct Told {
 
 // How many objects a step of kind k may name.
 fn objects_of(k: u16) -> u16
-    ensures { result ≡ (if k is 2 or k is 3 then 64 else 1) }
+    ensures { result ≡ (provided k is 2 or k is 3 then 64 else 1) }
 {
     if k == 2 {
         return 64;
@@ -86,7 +86,7 @@ fn breaches(rows: &[u16], marks: &[u64], p: usize) -> bool
 
 // The higher of two numbers.
 fn higher(n: usize, p: usize) -> usize
-    ensures { result ≡ (if n below p then p else n) }
+    ensures { result ≡ (provided n below p then p else n) }
 {
     if n < p {
         return p;

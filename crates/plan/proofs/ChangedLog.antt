@@ -9,12 +9,12 @@ use native.Mathlib.Nat.{not-suc-le-zero}
 use native.Mathlib.Numerals.{add-one}
 use lib.ListN.{length, get_or, length-append, get_or-append}
 use lib.Seq.{get_or-append-add}
-use Rattle.words.specs.Tests.{◌is◌, ◌below◌, ◌upto◌, ◌and◌, ◌or◌, fails, if◌then◌else◌, some, lowest}
+use Rattle.words.specs.Tests.{◌is◌, ◌below◌, ◌upto◌, ◌and◌, ◌or◌, fails, provided◌then◌else◌, lowest}
 use Rattle.verdict.specs.Limits.{transactions}
 use Rattle.verdict.specs.Log.{steps, kind, tx, obj, src, begins, reads, writes, commits, aborts, begun, ended, wrote, committed, writer, write_one_object, commit_step}
 use Rattle.verdict.specs.Refusal.{object_allowed, source_allowed, range_refusal, life_refusal, source_refusal, step_refusal, open_refusal, log_refusal}
 use Rattle.verdict.specs.declared.answers.Checked.TheVariants.{Passed}
-use Rattle.words.proofs.Truth.{decide, not_both, to_false, same_test, and→, →and, or→, →or_left, →or_right, and_no_left, fails→, →fails, is→, →is, →isnt, below→, not_below→, if_true, if_false, some→, →some, some_same, lowest_is, lowest_at}
+use Rattle.words.proofs.Truth.{decide, not_both, to_false, same_test, and→, →and, or→, →or_left, →or_right, and_no_left, fails→, →fails, is→, →is, →isnt, below→, not_below→, provided_true, provided_false, some→, →some, some_same, lowest_is, lowest_at}
 use Rattle.verdict.proofs.Refused.{tried_same}
 use Rattle.verdict.proofs.WellFormed.{whole_steps}
 use Rattle.plan.specs.TakenBack.{kind_after, steps_after, taken_back}
@@ -79,15 +79,15 @@ module _ (back : ℕ → Bool) (log : List ℕ) where
 module _ (back : ℕ → Bool) (log : List ℕ) (i : ℕ) where
   pub kind_turned : kind log i ≡ 4 → back (tx log i) ≡ true → kind_after back log i ≡ 5
   unfolding kind_after
-  kind_turned k b = if_true 5 (kind log i) (→and (→is k) b)
+  kind_turned k b = provided_true 5 (kind log i) (→and (→is k) b)
 
   pub kind_kept : (kind log i is 4 and back (tx log i)) ≡ false → kind_after back log i ≡ kind log i
   unfolding kind_after
-  kind_kept h = if_false 5 (kind log i) h
+  kind_kept h = provided_false 5 (kind log i) h
 
 -- a number of kind 4 is read as one of kind 5 is
 same_ranges : (i t x s : ℕ) → range_refusal i 5 t x s ≡ range_refusal i 4 t x s
-unfolding range_refusal object_allowed source_allowed ◌upto◌ ◌is◌ ◌and◌ ◌or◌ fails if◌then◌else◌
+unfolding range_refusal object_allowed source_allowed ◌upto◌ ◌is◌ ◌and◌ ◌or◌ fails provided◌then◌else◌
 same_ranges i t x s = refl
 
 split : (a b d : Bool) → ((a and fails d) or (b or (a and d))) ≡ (a or b)

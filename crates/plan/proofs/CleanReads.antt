@@ -5,7 +5,7 @@ use mathlib.Core.Logic.{◌⊎◌, inl, inr, ⊎_elim}
 use mathlib.Core.List.{List}
 use Prim.Native.Nat.{ℕ, ◌<◌}
 use native.Mathlib.Omega.{arith}
-use Rattle.words.specs.Tests.{◌below◌, ◌and◌, fails}
+use Rattle.words.specs.Tests.{◌below◌, ◌and◌}
 use Rattle.verdict.specs.Log.{steps, tx, obj, src, committed}
 use Rattle.verdict.specs.Clean.{judged, judged_other, after_own_write, writes_later, final_source, own_fault, source_fault, faulty_read, is_clean}
 use Rattle.words.proofs.Truth.{decide, not_both, to_true, to_false, and→, →and, or→, →or_left, →or_right, fails→, →fails, is→, →is, →none, none→, some_same}

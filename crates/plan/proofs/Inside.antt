@@ -4,7 +4,7 @@ use mathlib.Core.Bool.{Bool, true, false}
 use mathlib.Core.Logic.{◌⊎◌, inl, inr, ⊎_elim}
 use mathlib.Core.List.{List}
 use Prim.Native.Nat.{ℕ, ◌<◌}
-use Rattle.words.specs.Tests.{◌is◌, fails}
+use Rattle.words.specs.Tests.{◌is◌}
 use Rattle.verdict.specs.Limits.{transactions}
 use Rattle.verdict.specs.Log.{steps, tx, obj, src, committed}
 use Rattle.verdict.specs.Clean.{judged_other, is_clean}

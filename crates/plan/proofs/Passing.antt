@@ -4,23 +4,23 @@ use mathlib.Core.Bool.{Bool, true, false, false≢true}
 use mathlib.Core.Logic.{◌⊎◌, inl, inr, ⊎_elim}
 use mathlib.Core.List.{List, [], ◌∷◌}
 use Prim.Native.Nat.{ℕ}
-use Rattle.words.specs.Tests.{if◌then◌else◌}
+use Rattle.words.specs.Tests.{provided◌then◌else◌}
 use Rattle.words.specs.Lists.{member, distinct, before}
-use Rattle.words.proofs.Truth.{decide, not_both, to_false, →and, →fails, if_true, if_false}
+use Rattle.words.proofs.Truth.{decide, not_both, to_false, →and, →fails, provided_true, provided_false}
 use Rattle.words.proofs.Places.{member_head, member_tail, member→, before→, before_head, before_tail, before_right, distinct→}
 
 unfoldable pub passing : (ℕ → Bool) → List ℕ → List ℕ
 passing p [] = []
-passing p (t ∷ w) = if p t then t ∷ passing p w else passing p w
+passing p (t ∷ w) = provided p t then t ∷ passing p w else passing p w
 
 module _ (p : ℕ → Bool) where
   takes : (t : ℕ) (w : List ℕ) → p t ≡ true → passing p (t ∷ w) ≡ t ∷ passing p w
   unfolding passing
-  takes t w h = if_true _ _ h
+  takes t w h = provided_true _ _ h
 
   leaves : (t : ℕ) (w : List ℕ) → p t ≡ false → passing p (t ∷ w) ≡ passing p w
   unfolding passing
-  leaves t w h = if_false _ _ h
+  leaves t w h = provided_false _ _ h
 
   pub passing_member : (a : ℕ) (w : List ℕ) → member a (passing p w) ≡ true → (member a w ≡ true) × (p a ≡ true)
   passing_member a [] m = absurd (false≢true (unfold passing member in m))

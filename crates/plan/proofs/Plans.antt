@@ -7,7 +7,7 @@ use Prim.Native.Nat.{ℕ, suc, ◌+◌, ◌*◌, ◌<◌, ◌≤◌}
 use native.Mathlib.Omega.{arith}
 use lib.ListN.{length, get_or, set, replicate, length-set, length-replicate, get_or-replicate, get_or-eq_default}
 use lib.Seq.{get_or-set_same, get_or-set_other}
-use Rattle.words.specs.Tests.{◌is◌, ◌below◌, ◌and◌, fails, if◌then◌else◌, count, lowest}
+use Rattle.words.specs.Tests.{◌is◌, ◌below◌, ◌and◌, fails, provided◌then◌else◌, count, lowest}
 use Rattle.verdict.specs.Limits.{transactions}
 use Rattle.verdict.specs.Log.{steps, src, committed}
 use Rattle.verdict.specs.Clean.{fault_step, faulty_read}
@@ -16,7 +16,7 @@ use Rattle.verdict.specs.declared.answers.Checked.TheVariants.{Passed}
 use Rattle.verdict.specs.declared.answers.Fault.{Fault}
 use Rattle.verdict.specs.declared.answers.Answer.{Answer}
 use Rattle.verdict.specs.declared.answers.Answer.TheVariants.{Order, Cycle, None, Unclean}
-use Rattle.words.proofs.Truth.{decide, not_both, to_true, to_false, and→, →and, and_no_left, and_no_right, and_true_right, →fails, →not_fails, is→, →is, isnt→, →isnt, below→, not_below→, if_true, if_false, lowest_is, lowest_passes, below_lowest, lowest_some, none→, count_same, count_without}
+use Rattle.words.proofs.Truth.{decide, not_both, to_true, to_false, and→, →and, and_no_left, and_no_right, and_true_right, →fails, →not_fails, is→, →is, isnt→, →isnt, below→, not_below→, provided_true, provided_false, lowest_is, lowest_passes, below_lowest, lowest_some, none→, count_same, count_without}
 use Rattle.words.proofs.Counting.{count_most}
 use Rattle.plan.specs.TakenBack.{taken_back, ◌but◌}
 use Rattle.plan.specs.Fine.{Fine}
@@ -77,15 +77,15 @@ module _ (log : List ℕ) (well : log_refusal log ≡ Passed) (back : List ℕ) 
       pub fault_inside : fault_step f < steps log
       fault_inside = rw (changed (marked back but t) log).size at there.0
 
-      pub tried_unclean : Fine transactions (taken_back (marked back) log) → {r : ℕ} → r ≡ (if marked back (src log (fault_step f)) then src log (fault_step f) else t) → Tried log (marked back) t r
+      pub tried_unclean : Fine transactions (taken_back (marked back) log) → {r : ℕ} → r ≡ (provided marked back (src log (fault_step f)) then src log (fault_step f) else t) → Tried log (marked back) t r
       tried_unclean fine {r} q = rw q (waits_for (chosen (decide (marked back source))) (waits_for_source log well (marked back) t fine (fault_step f) fault_inside there.1))
         where
           source : ℕ
           source = src log (fault_step f)
 
-          chosen : (marked back source ≡ true) ⊎ (marked back source ≡ false) → marked back (if marked back (src log (fault_step f)) then src log (fault_step f) else t) ≡ true
-          chosen (inl y) = ap (marked back) (if_true _ _ y) ∙ y
-          chosen (inr y) = ap (marked back) (if_false _ _ y) ∙ m
+          chosen : (marked back source ≡ true) ⊎ (marked back source ≡ false) → marked back (provided marked back (src log (fault_step f)) then src log (fault_step f) else t) ≡ true
+          chosen (inl y) = ap (marked back) (provided_true _ _ y) ∙ y
+          chosen (inr y) = ap (marked back) (provided_false _ _ y) ∙ m
 
 -- FEWER ARE TAKEN BACK
 still_waits : (log : List ℕ) (back fewer : ℕ → Bool) (t s : ℕ) → Within fewer back → Waits log back t s → Waits log fewer t s
@@ -133,13 +133,13 @@ module _ (log back waits : List ℕ) (p : Planning log back waits) where
     in_waits : t < length waits
     in_waits = omega (arith, p.size_waits)
 
-    module _ (s v : ℕ) (found : Tried log (marked back) t s) (mark : v ≡ (if s is 0 then 0 else 1)) where
+    module _ (s v : ℕ) (found : Tried log (marked back) t s) (mark : v ≡ (provided s is 0 then 0 else 1)) where
       -- the marks behind the try: t goes where nobody has to be waited for
       gone : s ≡ 0 → marked (set back t v) ≡ (marked back but t)
-      gone z = rw (mark ∙ if_true _ _ (→is z)) (marked_without back t in_back)
+      gone z = rw (mark ∙ provided_true _ _ (→is z)) (marked_without back t in_back)
 
       kept : (s ≡ 0 → ⊥) → marked (set back t v) ≡ marked back
-      kept z = rw (mark ∙ if_false _ _ (→isnt z)) (marked_again back t in_back tried_marked)
+      kept z = rw (mark ∙ provided_false _ _ (→isnt z)) (marked_again back t in_back tried_marked)
 
       -- giving back goes on
       given : (rest : ℕ → Bool) → s ≡ 0 → Fine transactions (taken_back (marked back but t) log) → GivesBack transactions log (marked back but t) rest → GivesBack transactions log (committed log) rest
@@ -203,7 +203,7 @@ unfoldable pub to_do : (back waits : List ℕ) → ℕ
 to_do back waits = count table (marked back) * 130 + count table (can_try back waits)
 
 module _ (log back waits : List ℕ) (p : Planning log back waits) (t : ℕ) (low : t ≡ lowest table (can_try back waits)) (h : t < table)
-    (s v : ℕ) (found : Tried log (marked back) t s) (mark : v ≡ (if s is 0 then 0 else 1)) where
+    (s v : ℕ) (found : Tried log (marked back) t s) (mark : v ≡ (provided s is 0 then 0 else 1)) where
   one_fewer : suc (count table (marked back but t)) ≡ count table (marked back)
   unfolding ◌but◌
   one_fewer = count_without table (marked back) t h (tried_marked log back waits p t low h)

@@ -4,7 +4,7 @@ use mathlib.Core.Bool.{Bool, true, false}
 use mathlib.Core.List.{List}
 use Prim.Native.Nat.{ℕ}
 use lib.ListN.{length, drop}
-use Rattle.words.specs.Tests.{◌is◌, ◌and◌, fails}
+use Rattle.words.specs.Tests.{◌is◌, ◌and◌}
 use Rattle.words.specs.Lists.{all, distinct}
 use Rattle.verdict.specs.Log.{committed}
 use Rattle.verdict.specs.Next.{up_to_zero}

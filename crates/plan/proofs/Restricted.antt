@@ -6,7 +6,7 @@ use mathlib.Core.Logic.{◌⊎◌, inl, inr, ⊎_elim}
 use mathlib.Core.List.{List}
 use Prim.Native.Nat.{ℕ, ◌<◌}
 use Rattle.words.specs.Tests.{fails}
-use Rattle.words.specs.Lists.{member, all, distinct, before}
+use Rattle.words.specs.Lists.{member, distinct, before}
 use Rattle.verdict.specs.Limits.{transactions}
 use Rattle.verdict.specs.Log.{steps, tx, obj, src, committed, writer, commit_step}
 use Rattle.verdict.specs.Clean.{judged, judged_other, is_clean}

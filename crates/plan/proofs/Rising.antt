@@ -10,7 +10,7 @@ use lib.ListN.{length, set, replicate, length-append, length-replicate}
 use lib.Seq.{set-append_seam, append_snoc}
 use Rattle.words.specs.Tests.{◌below◌}
 use Rattle.words.specs.Lists.{member, distinct, zeros, entries}
-use Rattle.words.proofs.Truth.{decide, not_both, to_false, if_true, if_false, below→, not_below→}
+use Rattle.words.proofs.Truth.{decide, not_both, to_false, provided_true, provided_false, below→, not_below→}
 use Rattle.words.proofs.Places.{member_head, member→, member_left, member_right, member_either}
 use Rattle.verdict.proofs.Loosely.{distinct_more}
 use Rattle.plan.specs.Proposal.{proposal_entries}
@@ -21,11 +21,11 @@ use Rattle.plan.specs.Inner.Laying.{Laid}
 module _ (p : ℕ → Bool) where
   rising_yes : (n : ℕ) → p n ≡ true → rising (suc n) p ≡ rising n p ++ n ∷ []
   unfolding rising
-  rising_yes n h = ap (λ (l : List ℕ). rising n p ++ l) (if_true (n ∷ []) [] h)
+  rising_yes n h = ap (λ (l : List ℕ). rising n p ++ l) (provided_true (n ∷ []) [] h)
 
   rising_no : (n : ℕ) → p n ≡ false → rising (suc n) p ≡ rising n p
   unfolding rising
-  rising_no n h = ap (λ (l : List ℕ). rising n p ++ l) (if_false (n ∷ []) [] h) ∙ append-nil (rising n p)
+  rising_no n h = ap (λ (l : List ℕ). rising n p ++ l) (provided_false (n ∷ []) [] h) ∙ append-nil (rising n p)
 
   -- no more than there are numbers but 0
   rising_length : p 0 ≡ false → (n : ℕ) → length (rising (suc n) p) ≤ n

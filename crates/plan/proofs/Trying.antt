@@ -6,11 +6,11 @@ use mathlib.Core.List.{List}
 use Prim.Native.Nat.{ℕ, ◌<◌}
 use native.Mathlib.Omega.{arith}
 use lib.ListN.{length}
-use Rattle.words.specs.Tests.{if◌then◌else◌, lowest}
+use Rattle.words.specs.Tests.{provided◌then◌else◌, lowest}
 use Rattle.verdict.specs.Limits.{transactions, work_bytes, witness_buffer}
 use Rattle.verdict.specs.Log.{steps, aborted, src}
 use Rattle.verdict.specs.Clean.{fault_step, after_own_write, faulty_read, is_clean, fault_at, cleanness}
-use Rattle.verdict.specs.Outcome.{Outcome, order, said, shows_order, shows_cycle}
+use Rattle.verdict.specs.Outcome.{Outcome, said, shows_order, shows_cycle}
 use Rattle.verdict.specs.Version.{Version, version, version_unclean}
 use Rattle.verdict.specs.Call.{VersionCall, turned_away, answered, said_judged}
 use Rattle.verdict.specs.Refusal.{log_refusal}
@@ -22,7 +22,7 @@ use Rattle.verdict.specs.declared.answers.Answer.{Answer}
 use Rattle.verdict.specs.declared.answers.Answer.TheVariants.{Order, Cycle, None, Unclean}
 use Rattle.verdict.specs.declared.answers.WitnessAnswer.{WitnessAnswer}
 use Rattle.verdict.specs.declared.answers.WitnessAnswer.TheVariants as answer
-use Rattle.words.proofs.Truth.{decide, not_fails→, if_false, lowest_is}
+use Rattle.words.proofs.Truth.{decide, not_fails→, provided_false, lowest_is}
 use Rattle.verdict.proofs.WellFormed.{refused≢passed}
 use Rattle.verdict.proofs.Cleanly.{cleanness_clean, clean_cleanness, clean≢unclean}
 use Rattle.verdict.proofs.Frame.{work_passed, witness_passed, both_passed}
@@ -52,10 +52,10 @@ module _ {log work witness work' witness' : List ℕ} {r : WitnessAnswer} (call 
 
 -- THE READ AT FAULT
 step_at : (log : List ℕ) (k : ℕ) → fault_step (fault_at log k) ≡ k
-unfolding fault_step fault_at if◌then◌else◌
+unfolding fault_step fault_at provided◌then◌else◌
 step_at log k = go (after_own_write log k) (aborted log (src log k))
   where
-    go : (a b : Bool) → fault_step (if a then Own k else if b then Aborted k else Unfinal k) ≡ k
+    go : (a b : Bool) → fault_step (provided a then Own k else provided b then Aborted k else Unfinal k) ≡ k
     go true b = refl
     go false true = refl
     go false false = refl
@@ -70,7 +70,7 @@ fault_there log f c = go (decide (is_clean log))
     go : (is_clean log ≡ true) ⊎ (is_clean log ≡ false) → (fault_step f < steps log) × (faulty_read log (fault_step f) ≡ true)
     go (inl y) = absurd (clean≢unclean (clean_cleanness log y) c)
     go (inr y) =
-        let e : cleanness log ≡ cleanness_is.Unclean (fault_at log (lowest (steps log) (faulty_read log))) = unfold cleanness in (if_false _ _ y) in
+        let e : cleanness log ≡ cleanness_is.Unclean (fault_at log (lowest (steps log) (faulty_read log))) = unfold cleanness in (provided_false _ _ y) in
         let g : f ≡ fault_at log (lowest (steps log) (faulty_read log)) = cc in
         let s : fault_step f ≡ lowest (steps log) (faulty_read log) = ap fault_step g ∙ step_at log (lowest (steps log) (faulty_read log)) in
         let r = lowest_is (faulty_read log) (not_fails→ y) in

@@ -4,13 +4,13 @@ use mathlib.Core.Bool.{Bool, true, false}
 use mathlib.Core.Logic.{◌⊎◌, inl, inr}
 use mathlib.Core.List.{List}
 use Prim.Native.Nat.{ℕ, ◌<◌}
-use Rattle.words.specs.Tests.{◌is◌, if◌then◌else◌}
+use Rattle.words.specs.Tests.{◌is◌, provided◌then◌else◌}
 use Rattle.verdict.specs.Limits.{transactions}
 use Rattle.verdict.specs.Log.{steps, tx, src}
 use Rattle.verdict.specs.Clean.{judged_other, faulty_read, is_clean}
 use Rattle.verdict.specs.Refusal.{log_refusal}
 use Rattle.verdict.specs.declared.answers.Checked.TheVariants.{Passed}
-use Rattle.words.proofs.Truth.{decide, not_both, to_false, is→, isnt→, if_true}
+use Rattle.words.proofs.Truth.{decide, not_both, to_false, is→, isnt→, provided_true}
 use Rattle.plan.specs.TakenBack.{taken_back, ◌but◌}
 use Rattle.plan.specs.Fine.{Fine}
 use Rattle.plan.specs.Inner.Trials.{Within, Waits}
@@ -59,9 +59,9 @@ module _ (log : List ℕ) (well : log_refusal log ≡ Passed) (back : ℕ → Bo
         not_both fault (→sound others k (sound_more d c k h (λ m. to_false _ (λ z. let r = but→ back t (src log k) z in not_both (but_other fewer t (src log k) r.1 (source r.0)) (still_committed d (src log k) m).1)) s))
 
     -- so t waits for the source, if that is taken back, and else for good
-    pub waits_for_source : Waits log back t (if back (src log k) then src log k else t)
+    pub waits_for_source : Waits log back t (provided back (src log k) then src log k else t)
     waits_for_source = go (decide (back (src log k)))
       where
-        go : (back (src log k) ≡ true) ⊎ (back (src log k) ≡ false) → Waits log back t (if back (src log k) then src log k else t)
-        go (inl e) fewer within a b = stays fewer within (λ _. rw (if_true (src log k) t e) at b)
+        go : (back (src log k) ≡ true) ⊎ (back (src log k) ≡ false) → Waits log back t (provided back (src log k) then src log k else t)
+        go (inl e) fewer within a b = stays fewer within (λ _. rw (provided_true (src log k) t e) at b)
         go (inr e) fewer within a b = stays fewer within (λ z. absurd (not_both z e))

@@ -1,7 +1,7 @@
 -- Which commits to redo: every commit is taken back at first; then again and again the lowest is given back that leaves the log fine, until none does.
 -- Transactions are at most `most`.
 use Rattle.std.specs.Prelude.{◌≡◌, Bool, true, List, [], ◌∷◌, ◌++◌, ℕ, zero, suc, ◌<◌}
-use Rattle.words.specs.Tests.{if◌then◌else◌}
+use Rattle.words.specs.Tests.{provided◌then◌else◌}
 use Rattle.verdict.specs.Log.{committed}
 use Rattle.plan.specs.TakenBack.{taken_back, ◌but◌}
 use Rattle.plan.specs.Fine.{Fine}
@@ -10,7 +10,7 @@ use Rattle.plan.specs.WillDo.{Needs}
 -- the numbers below n that pass, rising
 unfoldable pub rising : ℕ → (ℕ → Bool) → List ℕ
 rising zero p = []
-rising (suc n) p = rising n p ++ (if p n then n ∷ [] else [])
+rising (suc n) p = rising n p ++ (provided p n then n ∷ [] else [])
 
 module _ (most : ℕ) (log : List ℕ) where
   -- from those of `back` on, giving back ends with those of `rest` still taken back

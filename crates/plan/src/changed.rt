@@ -1,6 +1,6 @@
 // The log with some transactions taken back, and the version verdict of it.
 ghost use Rattle.std.specs.Prelude.{◌≡◌, [], ◌∷◌, ◌++◌, ◌+◌, ◌*◌, ◌≤◌, length, take};
-ghost use Rattle.words.specs.Tests.{◌is◌, ◌and◌, if◌then◌else◌};
+ghost use Rattle.words.specs.Tests.{◌is◌, ◌and◌, provided◌then◌else◌};
 ghost use Rattle.verdict.specs.Log.{tx, obj, src};
 ghost use Rattle.verdict.specs.Limits.{transactions};
 ghost use Rattle.verdict.specs.Refusal.{log_refusal};
@@ -17,7 +17,7 @@ use verdict::{Log, Step, Transaction, version};
 // The kind of a step of t when those marked are taken back.
 fn kind_of(kind: u16, t: u16, back: &[u8; Transaction::TABLE]) -> u16
     requires { length back.now ≡ table }
-    ensures { result ≡ (if kind is 4 and marked back.now t then 5 else kind) }
+    ensures { result ≡ (provided kind is 4 and marked back.now t then 5 else kind) }
 {
     if kind != Step::COMMIT {
         return kind;

@@ -1,6 +1,6 @@
 // Giving a commit back: whether it can be, or whom it waits for.
 ghost use Rattle.std.specs.Prelude.{◌≡◌, true, false, ◌+◌, ◌*◌, ◌≤◌, length};
-ghost use Rattle.words.specs.Tests.{if◌then◌else◌};
+ghost use Rattle.words.specs.Tests.{provided◌then◌else◌};
 ghost use Rattle.verdict.specs.Limits.{transactions};
 ghost use Rattle.verdict.specs.Log.{src};
 ghost use Rattle.verdict.specs.Refusal.{log_refusal};
@@ -18,7 +18,7 @@ use verdict::{Transaction, fault_step};
 // Whom t waits for where its read at step k is at fault: the source, if that is taken back, and else itself, which is for good.
 fn source_or(log: &[u16], back: &[u8; Transaction::TABLE], t: usize, k: usize) -> usize
     requires { (length back.now ≡ table) × (4 * k + 4 ≤ length log.now) }
-    ensures { result ≡ (if marked back.now (src log.now k) then src log.now k else t) }
+    ensures { result ≡ (provided marked back.now (src log.now k) then src log.now k else t) }
 {
     let s = index(log[4 * k + 3]);
     if is_marked(back, s) {

@@ -1,6 +1,6 @@
 // The planner: every commit is taken back at first, and then the lowest that can be is given back, again and again.
 ghost use Rattle.std.specs.Prelude.{◌≡◌, ◌<◌, length};
-ghost use Rattle.words.specs.Tests.{◌is◌, if◌then◌else◌, lowest};
+ghost use Rattle.words.specs.Tests.{◌is◌, provided◌then◌else◌, lowest};
 ghost use Rattle.verdict.specs.Refusal.{log_refusal};
 ghost use Rattle.verdict.specs.declared.answers.Checked.TheVariants.{Passed};
 ghost use Rattle.plan.specs.RedoCall.{RedoCall};
@@ -45,7 +45,7 @@ fn lowest_to_try(back: &[u8; Transaction::TABLE], waits: &[usize; Transaction::T
 
 // The mark of one that was tried: it goes where nobody has to be waited for.
 fn mark_after(waited: usize) -> u8
-    ensures { result ≡ (if waited is 0 then 0 else 1) }
+    ensures { result ≡ (provided waited is 0 then 0 else 1) }
 {
     if waited == 0 {
         return 0;

@@ -7,7 +7,7 @@ use native.Mathlib.Omega.{arith}
 use native.Mathlib.Numerals.{add-one}
 use lib.ListN.{length, get_or, drop, drop_of_length-le}
 use lib.Seq.{drop-cons}
-use Rattle.words.specs.Tests.{◌is◌, ◌and◌}
+use Rattle.words.specs.Tests.{◌and◌}
 use Rattle.words.proofs.Truth.{not_both, and→, →and, →is, is→, →isnt, and_no_left, upto→, →upto}
 use Rattle.text.specs.Decimal.{digit, decimal}
 use Rattle.text.specs.Line.{sayable, largest}

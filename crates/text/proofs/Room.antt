@@ -5,7 +5,7 @@ use mathlib.Core.List.{List, [], ◌∷◌, ◌++◌}
 use Prim.Native.Nat.{ℕ, suc, ◌+◌, ◌*◌, ◌≤◌, ◌<◌}
 use native.Mathlib.Omega.{arith}
 use lib.ListN.{length, length-append}
-use Rattle.words.specs.Tests.{◌is◌, if◌then◌else◌}
+use Rattle.words.specs.Tests.{◌is◌, provided◌then◌else◌}
 use Rattle.words.specs.Lists.{member}
 use Rattle.words.proofs.Places.{member_head, member_tail}
 use Rattle.verdict.specs.Limits.{transactions, objects, most_steps}
@@ -76,10 +76,10 @@ wants_length (Reader t) (reader_upto o h) = omega (arith, number_item (bytes "wa
 
 -- MEMBERS, A BLANK BEFORE EACH AND THE REASON BEHIND IT
 reason_length : (k x : ℕ) → x < 100 → length (reason k x) ≤ 6
-unfolding reason bytes if◌then◌else◌
+unfolding reason bytes provided◌then◌else◌
 reason_length k x h = go (k is 1) (k is 2) (k is 3)
   where
-    go : (b c d : Bool) → length (if b then bytes " ww:" ++ decimal x else if c then bytes " wr:" ++ decimal x else if d then bytes " rw:" ++ decimal x else []) ≤ 6
+    go : (b c d : Bool) → length (provided b then bytes " ww:" ++ decimal x else provided c then bytes " wr:" ++ decimal x else provided d then bytes " rw:" ++ decimal x else []) ≤ 6
     go true c d = omega (arith, two_digits x h)
     go false true d = omega (arith, two_digits x h)
     go false false true = omega (arith, two_digits x h)
@@ -93,7 +93,7 @@ spelled_length e h =
 
 -- those of an order have none
 none_behind : length (reason 0 0) ≡ 0
-unfolding reason ◌is◌ if◌then◌else◌
+unfolding reason ◌is◌ provided◌then◌else◌
 none_behind = refl
 
 order_length : (w : List ℕ) → ((t : ℕ) → member t w ≡ true → t < 1000) → length (spelled_all (without_reasons w)) ≤ 4 * length w

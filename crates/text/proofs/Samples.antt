@@ -4,7 +4,7 @@ use mathlib.Core.List.{List, [], ◌∷◌, ◌++◌}
 use Prim.Native.Nat.{ℕ, ◌≤◌}
 use native.Mathlib.Omega.{arith}
 use lib.ListN.{length}
-use Rattle.words.specs.Tests.{◌is◌, ◌below◌, ◌upto◌, ◌and◌, if◌then◌else◌, count}
+use Rattle.words.specs.Tests.{◌is◌, ◌below◌, ◌upto◌, ◌and◌, provided◌then◌else◌, count}
 use Rattle.verdict.specs.Log.{steps, kind, tx, obj, src, committed_count}
 use Rattle.verdict.specs.Refusal.{◌at◌when◌, search_refusal}
 use Rattle.verdict.specs.Outcome.{Outcome, cycle, none}
@@ -41,7 +41,7 @@ printed_bytes =
     ++ bytes "op=commit tx=2 obj=0 from=0\n"
 
 pub printed_text : printed_bytes ≡ text_of printed
-unfolding printed printed_bytes text_of lines header line op item word decimal digits digit bytes steps kind tx obj src ◌is◌ ◌below◌ if◌then◌else◌
+unfolding printed printed_bytes text_of lines header line op item word decimal digits digit bytes steps kind tx obj src ◌is◌ ◌below◌ provided◌then◌else◌
 printed_text = refl
 
 printed_steps : Steps 8 printed
@@ -79,11 +79,11 @@ printed_lines :
     ++ outcome_line (bytes "conflict=") both ++ outcome_line (bytes "version=") both ++ outcome_line (bytes "exact=") none
     ≡ printed_report
 unfolding printed both printed_report header committed_line clean_line snapshot_line outcome_line value spelled_all spelled reason item decimal digits digit bytes
-    steps committed_count count kind ◌is◌ ◌below◌ if◌then◌else◌
+    steps committed_count count kind ◌is◌ ◌below◌ provided◌then◌else◌
 printed_lines = refl
 
 few_committed : search_refusal printed ≡ Passed
-unfolding printed search_refusal committed_count count steps kind ◌at◌when◌ ◌is◌ ◌below◌ if◌then◌else◌
+unfolding printed search_refusal committed_count count steps kind ◌at◌when◌ ◌is◌ ◌below◌ provided◌then◌else◌
 few_committed = refl
 
 short_text : length printed_bytes ≤ most_bytes
@@ -101,5 +101,5 @@ printed_gives =
 
 -- the largest number
 pub largest_decimal : decimal 65535 ≡ bytes "65535"
-unfolding decimal digits digit bytes ◌below◌ if◌then◌else◌
+unfolding decimal digits digit bytes ◌below◌ provided◌then◌else◌
 largest_decimal = refl

@@ -7,7 +7,7 @@ use Prim.Native.Nat.{ℕ, zero, suc, ◌+◌, ◌*◌, ◌≤◌, ◌<◌}
 use native.Mathlib.Omega.{arith}
 use native.Mathlib.Numerals.{add-one}
 use lib.ListN.{length, length-append}
-use Rattle.words.specs.Tests.{◌is◌, if◌then◌else◌}
+use Rattle.words.specs.Tests.{◌is◌, provided◌then◌else◌}
 use Rattle.words.proofs.Truth.{decide, →and, →upto, is→, isnt→}
 use Rattle.verdict.specs.Limits.{transactions, objects, most_steps}
 use Rattle.verdict.specs.Log.{steps, kind, tx, obj, src}
@@ -99,7 +99,7 @@ line_length k t x s =
 
 -- the front of a line
 pub front_length : {k : ℕ} → Kind k → length (op k) ≤ 10
-unfolding op item word bytes ◌is◌ if◌then◌else◌
+unfolding op item word bytes ◌is◌ provided◌then◌else◌
 front_length begin = omega arith
 front_length read = omega arith
 front_length write = omega arith
@@ -107,7 +107,7 @@ front_length commit = omega arith
 front_length abort = omega arith
 
 read_length : length (op 2) ≡ 8
-unfolding op item word bytes ◌is◌ if◌then◌else◌
+unfolding op item word bytes ◌is◌ provided◌then◌else◌
 read_length = refl
 
 module _ (t x s : ℕ) (few_t : t < 1000) (few_x : x < 100) (few_s : s < 1000) where

@@ -7,7 +7,7 @@ use Prim.Native.Nat.{ℕ, zero, suc, ◌+◌, ◌-◌, ◌*◌, ◌/◌, ◌%◌
 use native.Mathlib.Omega.{arith}
 use Rattle.words.specs.Tests.{◌below◌}
 use Rattle.words.specs.Lists.{all}
-use Rattle.words.proofs.Truth.{decide, not_both, and→, →and, below→, →below, not_below→, upto→, →upto, if_true, if_false}
+use Rattle.words.proofs.Truth.{decide, not_both, and→, →and, below→, →below, not_below→, upto→, →upto, provided_true, provided_false}
 use Rattle.text.specs.Decimal.{digit, digits, decimal}
 use Rattle.text.specs.Inner.Finds.{is_digit}
 
@@ -18,14 +18,14 @@ pub data Spelled : ℕ → List ℕ → Type 0 where
 
 digits_spell : (k n : ℕ) → n ≤ k → Spelled n (digits (suc k) n)
 unfolding digits
-digits_spell zero n h = let s : n < 10 = omega arith in rw (if_true _ _ (→below s)) (one s)
+digits_spell zero n h = let s : n < 10 = omega arith in rw (provided_true _ _ (→below s)) (one s)
 digits_spell (suc k) n h = go (decide (n below 10)) (λ m. digits_spell k (n / 10) m)
   where
     go : ((n below 10) ≡ true) ⊎ ((n below 10) ≡ false) → (n / 10 ≤ k → Spelled (n / 10) (digits (suc k) (n / 10))) → Spelled n (digits (suc (suc k)) n)
-    go (inl c) rec = rw (if_true _ _ c) (one (below→ c))
+    go (inl c) rec = rw (provided_true _ _ c) (one (below→ c))
     go (inr c) rec =
         let b : 10 ≤ n = not_below→ c in
-        rw (if_false _ _ c) (more {n = n} {v = n / 10} {d = n % 10} (omega arith) (omega arith) (omega arith) (rec (omega arith)))
+        rw (provided_false _ _ c) (more {n = n} {v = n / 10} {d = n % 10} (omega arith) (omega arith) (omega arith) (rec (omega arith)))
 
 pub decimal_spelled : (n : ℕ) → Spelled n (decimal n)
 unfolding decimal

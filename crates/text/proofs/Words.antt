@@ -7,7 +7,7 @@ use Prim.Native.Nat.{ℕ, ◌+◌, ◌≤◌}
 use Prim.Native.Char.{code}
 use native.Mathlib.Omega.{arith}
 use lib.ListN.{length, get_or, drop}
-use Rattle.words.specs.Tests.{◌is◌, ◌upto◌, ◌and◌, if◌then◌else◌}
+use Rattle.words.specs.Tests.{◌is◌, ◌upto◌, ◌and◌, provided◌then◌else◌}
 use Rattle.words.proofs.Truth.{decide, not_both, and→, upto→, is→, isnt→, →isnt}
 use Rattle.text.specs.Bytes.{bytes}
 use Rattle.text.specs.Line.{word, item, op, has_word}
@@ -43,10 +43,10 @@ kind_of k h = go (decide (k is 1)) (decide (k is 2)) (decide (k is 3)) (decide (
 
 -- each kind is told by the first letter of its word, which is the fourth byte
 letter : ℕ → ℕ
-letter b = if b is code "b" then 1 else if b is code "r" then 2 else if b is code "w" then 3 else if b is code "c" then 4 else 5
+letter b = provided b is code "b" then 1 else provided b is code "r" then 2 else provided b is code "w" then 3 else provided b is code "c" then 4 else 5
 
 letter_of : {k : ℕ} → Kind k → (rest : List ℕ) → letter (get_or (op k ++ rest) 3 0) ≡ k
-unfolding letter op item word bytes ◌is◌ if◌then◌else◌
+unfolding letter op item word bytes ◌is◌ provided◌then◌else◌
 letter_of begin rest = refl
 letter_of read rest = refl
 letter_of write rest = refl
@@ -67,15 +67,15 @@ kind_word abort = refl
 
 -- what is none of the first four has the word of the fifth
 pub other_word : (k : ℕ) → (k ≡ 1 → ⊥) → (k ≡ 2 → ⊥) → (k ≡ 3 → ⊥) → (k ≡ 4 → ⊥) → word k ≡ word 5
-unfolding word ◌is◌ if◌then◌else◌
+unfolding word ◌is◌ provided◌then◌else◌
 other_word k a b c d = rw (→isnt a, →isnt b, →isnt c, →isnt d) refl
 
 -- no word is longer
 pub word_length : (k : ℕ) → length (word k) ≤ 6
-unfolding word bytes if◌then◌else◌
+unfolding word bytes provided◌then◌else◌
 word_length k = go (k is 1) (k is 2) (k is 3) (k is 4)
   where
-    go : (a b c d : Bool) → length (if a then bytes "begin" else if b then bytes "read" else if c then bytes "write" else if d then bytes "commit" else bytes "abort") ≤ 6
+    go : (a b c d : Bool) → length (provided a then bytes "begin" else provided b then bytes "read" else provided c then bytes "write" else provided d then bytes "commit" else bytes "abort") ≤ 6
     go true b c d = omega arith
     go false true c d = omega arith
     go false false true d = omega arith

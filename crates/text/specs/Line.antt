@@ -1,6 +1,6 @@
 -- The lines of a text: the header `steps=N` and the steps `op=WORD tx=T obj=X from=S`, each with its LF.
 use Rattle.std.specs.Prelude.{Bool, List, [], ◌∷◌, ◌++◌, ℕ}
-use Rattle.words.specs.Tests.{◌is◌, ◌upto◌, ◌and◌, if◌then◌else◌}
+use Rattle.words.specs.Tests.{◌is◌, ◌upto◌, ◌and◌, provided◌then◌else◌}
 use Rattle.text.specs.Bytes.{bytes, blank, line_end}
 use Rattle.text.specs.Decimal.{decimal}
 
@@ -11,10 +11,10 @@ largest = 65535
 -- the word of each kind, 1 to 5
 unfoldable pub word : ℕ → List ℕ
 word k =
-    if k is 1 then bytes "begin"
-    else if k is 2 then bytes "read"
-    else if k is 3 then bytes "write"
-    else if k is 4 then bytes "commit"
+    provided k is 1 then bytes "begin"
+    else provided k is 2 then bytes "read"
+    else provided k is 3 then bytes "write"
+    else provided k is 4 then bytes "commit"
     else bytes "abort"
 
 -- a key, its value, and the byte behind them

@@ -1,7 +1,7 @@
 -- The lines of a report, each with its LF: how 01 prints every answer, and what 02 adds to a wrong read and to a cycle.
 use Rattle.std.specs.Prelude.{List, [], ◌∷◌, ◌++◌, ℕ}
 use Rattle.verdict.specs.Clean.{fault_step}
-use Rattle.words.specs.Tests.{◌is◌, if◌then◌else◌}
+use Rattle.words.specs.Tests.{◌is◌, provided◌then◌else◌}
 use Rattle.verdict.specs.Reason.{Entry, without_reasons}
 use Rattle.verdict.specs.Outcome.{Outcome, order, cycle, none, unclean}
 use Rattle.verdict.specs.declared.answers.Fault.{Fault}
@@ -42,9 +42,9 @@ snapshot_line (Snapshot.Write k t) = item (bytes "snapshot=write at ") (decimal 
 -- the reason behind a member of a cycle: its kind, and its object; a member of an order has none
 unfoldable pub reason : ℕ → ℕ → List ℕ
 reason k x =
-    if k is 1 then bytes " ww:" ++ decimal x
-    else if k is 2 then bytes " wr:" ++ decimal x
-    else if k is 3 then bytes " rw:" ++ decimal x
+    provided k is 1 then bytes " ww:" ++ decimal x
+    else provided k is 2 then bytes " wr:" ++ decimal x
+    else provided k is 3 then bytes " rw:" ++ decimal x
     else []
 
 -- a member, a blank before it

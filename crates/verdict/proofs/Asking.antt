@@ -4,7 +4,7 @@ use mathlib.Core.Logic.{◌⊎◌, inl, inr}
 use mathlib.Core.List.{List}
 use Prim.Native.Nat.{ℕ, ◌<◌, ◌≤◌}
 use native.Mathlib.Omega.{arith}
-use Rattle.words.specs.Tests.{◌is◌, ◌below◌, ◌upto◌, ◌and◌, ◌or◌, if◌then◌else◌}
+use Rattle.words.specs.Tests.{◌is◌, ◌below◌, ◌upto◌, ◌and◌, ◌or◌, provided◌then◌else◌}
 use Rattle.words.proofs.Truth.{same_test, and→, →and, →not_fails, is→, →is, below→, →below, upto→, →upto}
 use Rattle.verdict.specs.Limits.{objects}
 use Rattle.verdict.specs.Log.{kind, tx, obj, src}
@@ -27,19 +27,19 @@ none_but_0 : (s : ℕ) → (s upto 0) ≡ (s is 0)
 none_but_0 s = same_test (λ h. let z : s ≤ 0 = upto→ h in →is (omega arith)) (λ h. let z : s ≡ 0 = is→ h in →upto (omega arith))
 
 pub asks_begin : {k : ℕ} → k ≡ 1 → Asks k (record { objects = 1; source = 0; life = 0; late = 7 })
-unfolding object_allowed source_allowed ◌is◌ ◌upto◌ ◌and◌ ◌or◌ if◌then◌else◌
+unfolding object_allowed source_allowed ◌is◌ ◌upto◌ ◌and◌ ◌or◌ provided◌then◌else◌
 asks_begin e = rw e (record { known = refl; object = only_0; source = none_but_0; far = refl; number = refl })
 
 pub asks_read : {k : ℕ} → k ≡ 2 → Asks k (record { objects = 64; source = 128; life = 1; late = 8 })
-unfolding object_allowed source_allowed ◌is◌ ◌upto◌ ◌and◌ ◌or◌ if◌then◌else◌
+unfolding object_allowed source_allowed ◌is◌ ◌upto◌ ◌and◌ ◌or◌ provided◌then◌else◌
 asks_read e = rw e (record { known = refl; object = any_below; source = λ s. refl; far = refl; number = refl })
 
 pub asks_write : {k : ℕ} → k ≡ 3 → Asks k (record { objects = 64; source = 0; life = 1; late = 8 })
-unfolding object_allowed source_allowed ◌is◌ ◌upto◌ ◌and◌ ◌or◌ if◌then◌else◌
+unfolding object_allowed source_allowed ◌is◌ ◌upto◌ ◌and◌ ◌or◌ provided◌then◌else◌
 asks_write e = rw e (record { known = refl; object = any_below; source = none_but_0; far = refl; number = refl })
 
 pub asks_end : {k : ℕ} → (k ≡ 4) ⊎ (k ≡ 5) → Asks k (record { objects = 1; source = 0; life = 1; late = 8 })
-unfolding object_allowed source_allowed ◌is◌ ◌upto◌ ◌and◌ ◌or◌ if◌then◌else◌
+unfolding object_allowed source_allowed ◌is◌ ◌upto◌ ◌and◌ ◌or◌ provided◌then◌else◌
 asks_end (inl e) = rw e (record { known = refl; object = only_0; source = none_but_0; far = refl; number = refl })
 asks_end (inr e) = rw e (record { known = refl; object = only_0; source = none_but_0; far = refl; number = refl })
 

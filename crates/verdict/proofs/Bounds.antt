@@ -5,7 +5,7 @@ use mathlib.Core.List.{List, [], ◌∷◌}
 use Prim.Native.Nat.{ℕ, zero, suc, ◌≤◌, ◌<◌}
 use native.Mathlib.Omega.{arith}
 use lib.ListN.{length}
-use Rattle.words.specs.Tests.{◌below◌, if◌then◌else◌, some, count, lowest, highest}
+use Rattle.words.specs.Tests.{◌below◌, provided◌then◌else◌, some, count, lowest}
 use Rattle.words.specs.Lists.{member, all}
 use Rattle.words.specs.First.{later}
 use Rattle.graph.specs.Order.{once_each, is_order}
@@ -191,7 +191,7 @@ module _ (log : List ℕ) (well : log_refusal log ≡ Passed) where
 
   -- the step of a fault
   pub fault_few : {f : Fault} → cleanness log ≡ Unclean f → FaultUpto most_steps f
-  unfolding cleanness fault_at if◌then◌else◌
+  unfolding cleanness fault_at provided◌then◌else◌
   fault_few {f} e = go (is_clean log) (after_own_write log k) (aborted log (src log k)) e
     where
       k : ℕ
@@ -200,14 +200,14 @@ module _ (log : List ℕ) (well : log_refusal log ≡ Passed) where
       low : k ≤ most_steps
       low = omega (arith, lowest_bound {n = steps log} (faulty_read log), steps_within log well)
 
-      go : (b o c : Bool) → (if b then Yes else Unclean (if o then Own k else if c then Aborted k else Unfinal k)) ≡ Unclean f → FaultUpto most_steps f
+      go : (b o c : Bool) → (provided b then Yes else Unclean (provided o then Own k else provided c then Aborted k else Unfinal k)) ≡ Unclean f → FaultUpto most_steps f
       go true o c e = absurd (clean≢unclean refl e)
       go false true c e = let z : Own k ≡ f = cc in rw (← z) (own_upto low)
       go false false true e = let z : Aborted k ≡ f = cc in rw (← z) (aborted_upto low)
       go false false false e = let z : Unfinal k ≡ f = cc in rw (← z) (unfinal_upto low)
 
   wanted_few : (i : ℕ) → i < steps log → WriterUpto most_steps (suc transactions) (wanted log i)
-  unfolding wanted last_committed last_commit snapshot_step begin_step commits_writer begun if◌then◌else◌
+  unfolding wanted last_committed last_commit snapshot_step begin_step commits_writer begun provided◌then◌else◌
   wanted_few i h = go (after_own_write log i) (s below b) (λ e. below→ e)
     where
       b : ℕ
@@ -227,7 +227,7 @@ module _ (log : List ℕ) (well : log_refusal log ≡ Passed) where
           let r = some→ (begun_before log well s (omega (arith, within)) (λ (z : kind log s ≡ 1). omega arith)) in
           omega (arith, r.1)
 
-      go : (o v : Bool) → (v ≡ true → s < b) → WriterUpto most_steps (suc transactions) (if o then Reader (tx log i) else if v then Committed (tx log s) s else Store)
+      go : (o v : Bool) → (v ≡ true → s < b) → WriterUpto most_steps (suc transactions) (provided o then Reader (tx log i) else provided v then Committed (tx log s) s else Store)
       go true v f = let r = formed.range i h in reader_upto r.0 (omega (arith, r.1))
       go false true f =
           let h : s < b = f refl in
@@ -236,7 +236,7 @@ module _ (log : List ℕ) (well : log_refusal log ≡ Passed) where
       go false false f = store_fine
 
   pub snapshot_few : SnapshotUpto most_steps (suc transactions) (snapshot_verdict transactions log)
-  unfolding snapshot_verdict snapshot_fault if◌then◌else◌
+  unfolding snapshot_verdict snapshot_fault provided◌then◌else◌
   snapshot_few = go (some (steps log) (wrong_step transactions log)) (wrong_read log k) (λ e. (lowest_is {n = steps log} (wrong_step transactions log) e).0)
     where
       k : ℕ
@@ -248,7 +248,7 @@ module _ (log : List ℕ) (well : log_refusal log ≡ Passed) where
       low : k ≤ most_steps
       low = omega (arith, lowest_bound {n = steps log} (wrong_step transactions log), steps_within log well)
 
-      go : (b c : Bool) → (b ≡ true → k < steps log) → SnapshotUpto most_steps (suc transactions) (if b then if c then Read k (wanted log k) else Write k t else snapshot_is.Yes)
+      go : (b c : Bool) → (b ≡ true → k < steps log) → SnapshotUpto most_steps (suc transactions) (provided b then provided c then Read k (wanted log k) else Write k t else snapshot_is.Yes)
       go true true f = read_upto low (wanted_few k (f refl))
       go true false f = write_upto low (lowest_bound (clash log k))
       go false c f = snapshot_fine

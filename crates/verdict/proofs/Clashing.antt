@@ -6,8 +6,8 @@ use mathlib.Core.List.{List}
 use Prim.Native.Nat.{ℕ, ◌+◌, ◌≤◌, ◌<◌}
 use native.Mathlib.Omega.{arith}
 use lib.ListN.{get_or, replicate, get_or-replicate, length-replicate}
-use Rattle.words.specs.Tests.{◌below◌, ◌and◌, if◌then◌else◌, some, lowest}
-use Rattle.words.proofs.Truth.{decide, not_both, to_false, same_test, and→, →and, and_true, and_no_left, and_no_right, is→, →is, →isnt, →below, →not_below, below→, if_true, if_false, some→, →some, →none, some_skip, lowest_le, lowest_passes}
+use Rattle.words.specs.Tests.{◌below◌, ◌and◌, some, lowest}
+use Rattle.words.proofs.Truth.{decide, not_both, to_false, same_test, and→, →and, and_true, and_no_left, and_no_right, is→, →is, →isnt, →below, →not_below, below→, provided_true, provided_false, some→, →some, →none, some_skip, lowest_le, lowest_passes}
 use Rattle.bits.specs.Table.{Puts}
 use Rattle.bits.specs.Word.{marked}
 use Rattle.bits.proofs.Marks.{no_mark}
@@ -101,9 +101,9 @@ module _ (log : List ℕ) (j : ℕ) {last : List ℕ} (known : LastCommits log j
 
         go : (x : ℕ) → x < objects → (b : ℕ) → (marked (get_or writes t 0) x ≡ true) ⊎ (marked (get_or writes t 0) x ≡ false)
             → (b below get_or next x 0) ≡ some (j + 1) (λ i. b below i and commits_writer log x i)
-        go x h b (inl q) = ap (λ (z : ℕ). b below z) (put.each known.size x h ∙ if_true _ _ q ∙ e) ∙ last_is j b (commits_writer log x) (by_mark x h ∙ q)
+        go x h b (inl q) = ap (λ (z : ℕ). b below z) (put.each known.size x h ∙ provided_true _ _ q ∙ e) ∙ last_is j b (commits_writer log x) (by_mark x h ∙ q)
         go x h b (inr q) =
-            ap (λ (z : ℕ). b below z) (put.each known.size x h ∙ if_false _ _ q) ∙ known.entry x h b
+            ap (λ (z : ℕ). b below z) (put.each known.size x h ∙ provided_false _ _ q) ∙ known.entry x h b
             ∙ sym (some_skip j (λ i. b below i and commits_writer log x i) (and_no_right _ (by_mark x h ∙ q)))
 
     -- t has no partner where none of its objects was written by one who committed since it began

@@ -5,25 +5,25 @@ use mathlib.Core.Logic.{⊎_elim}
 use mathlib.Core.List.{List}
 use Prim.Native.Nat.{ℕ, ◌<◌}
 use native.Mathlib.Omega.{arith}
-use Rattle.words.specs.Tests.{◌is◌, if◌then◌else◌, lowest}
+use Rattle.words.specs.Tests.{◌is◌, provided◌then◌else◌, lowest}
 use Rattle.verdict.specs.Log.{steps, src, committed}
 use Rattle.verdict.specs.Clean.{judged_other, final_source, source_fault, faulty_read, is_clean, fault_at, cleanness}
 use Rattle.verdict.specs.declared.answers.Fault.{Fault}
 use Rattle.verdict.specs.declared.answers.Cleanness.{Cleanness}
 use Rattle.verdict.specs.declared.answers.Cleanness.TheVariants.{Yes, Unclean}
-use Rattle.words.proofs.Truth.{not_both, to_true, and→, →and, or→, →or_right, fails→, →fails, is→, none→, if_true}
+use Rattle.words.proofs.Truth.{not_both, to_true, and→, →and, or→, →or_right, fails→, →fails, is→, none→, provided_true}
 
 pub cleanness_clean : (log : List ℕ) → cleanness log ≡ Yes → is_clean log ≡ true
-unfolding cleanness if◌then◌else◌
+unfolding cleanness provided◌then◌else◌
 cleanness_clean log e = go (is_clean log) e
   where
-    go : (b : Bool) → (if b then Yes else Unclean (fault_at log (lowest (steps log) (faulty_read log)))) ≡ Yes → b ≡ true
+    go : (b : Bool) → (provided b then Yes else Unclean (fault_at log (lowest (steps log) (faulty_read log)))) ≡ Yes → b ≡ true
     go true h = refl
     go false h = let z : ◌≡◌ {A = ℕ} 0 1 = cc in absurd (omega arith)
 
 pub clean_cleanness : (log : List ℕ) → is_clean log ≡ true → cleanness log ≡ Yes
 unfolding cleanness
-clean_cleanness log h = if_true Yes (Unclean (fault_at log (lowest (steps log) (faulty_read log)))) h
+clean_cleanness log h = provided_true Yes (Unclean (fault_at log (lowest (steps log) (faulty_read log)))) h
 
 pub clean≢unclean : {c : Cleanness} {f : Fault} → c ≡ Yes → c ≡ Unclean f → ⊥
 clean≢unclean p q = let z : ◌≡◌ {A = ℕ} 0 1 = cc in omega arith

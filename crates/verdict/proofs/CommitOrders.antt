@@ -9,7 +9,7 @@ use native.Mathlib.Numerals.{add-one}
 use lib.ListN.{get_or, set, replicate, length-set, length-replicate, get_or-replicate}
 use lib.Seq.{get_or-set_same, get_or-set_other}
 use Rattle.words.specs.Tests.{◌is◌, some}
-use Rattle.words.proofs.Truth.{decide, not_both, →and, is→, →is, isnt→, →isnt, →some, if_true, if_false}
+use Rattle.words.proofs.Truth.{decide, not_both, →and, is→, →is, isnt→, →isnt, →some, provided_true, provided_false}
 use Rattle.verdict.specs.Limits.{transactions}
 use Rattle.verdict.specs.Log.{kind, tx}
 use Rattle.verdict.specs.Inner.Marks.{does}
@@ -18,11 +18,11 @@ use Rattle.verdict.specs.Inner.Checking.{committer, CommitOrder}
 module _ (log : List ℕ) where
   pub committer_commit : (j : ℕ) → kind log j ≡ 4 → committer log (suc j) ≡ tx log j
   unfolding committer
-  committer_commit j k = if_true _ _ (→is k)
+  committer_commit j k = provided_true _ _ (→is k)
 
   pub committer_other : (j : ℕ) → (kind log j ≡ 4 → ⊥) → committer log (suc j) ≡ committer log j
   unfolding committer
-  committer_other j k = if_false _ _ (→isnt k)
+  committer_other j k = provided_false _ _ (→isnt k)
 
   -- THE TABLE
   pub order_none : (m : ℕ) → m ≡ suc transactions → CommitOrder log 0 (replicate m 0)

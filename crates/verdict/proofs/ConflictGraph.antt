@@ -11,7 +11,7 @@ use Rattle.words.specs.Tests.{◌is◌, ◌upto◌, ◌and◌, ◌or◌, some}
 use Rattle.graph.specs.Matrix.{row_words, takes_part, in_row, Joins}
 use Rattle.graph.proofs.TwoWords.{no_member}
 use Rattle.graph.proofs.RowLaws.{no_rows}
-use Rattle.words.proofs.Truth.{decide, not_both, same_test, and→, →and, and_true, and_no_left, and_no_right, or→, →or_left, →or_right, or_no, →fails, fails→, isnt→, is→, →is, →isnt, →upto, if_true, if_false, some→, →some, →none, some_next, some_skip}
+use Rattle.words.proofs.Truth.{decide, not_both, same_test, and→, →and, and_true, and_no_left, and_no_right, or→, →or_left, →or_right, or_no, →fails, fails→, isnt→, is→, →is, →isnt, →upto, provided_true, provided_false, some→, →some, →none, some_next, some_skip}
 use Rattle.verdict.specs.Limits.{transactions, objects}
 use Rattle.verdict.specs.Log.{steps, kind, tx, obj, committed}
 use Rattle.verdict.specs.Conflict.{conflict_edge}
@@ -25,11 +25,11 @@ use Rattle.verdict.proofs.Matrices.{Kept, →kept, one_edge→, →one_edge, sam
 -- WHICH ROW IS TOUCHED
 reader_row : (x : ℕ) → touched_row 2 x ≡ suc x
 unfolding touched_row
-reader_row x = if_true _ _ (→is refl)
+reader_row x = provided_true _ _ (→is refl)
 
 writer_row : (x : ℕ) → touched_row 3 x ≡ suc (x + objects)
 unfolding touched_row
-writer_row x = if_false _ _ (→isnt (λ (e : ◌≡◌ {A = ℕ} 3 2). omega arith)) ∙ if_true _ _ (→is refl)
+writer_row x = provided_false _ _ (→isnt (λ (e : ◌≡◌ {A = ℕ} 3 2). omega arith)) ∙ provided_true _ _ (→is refl)
 
 pub row_range : (k x : ℕ) → (k ≡ 2) ⊎ (k ≡ 3) → x < objects → (1 ≤ touched_row k x) × (touched_row k x ≤ transactions)
 row_range k x w h =
@@ -40,7 +40,7 @@ row_tells : (k x l y : ℕ) → (k ≡ 2) ⊎ (k ≡ 3) → x < objects → y < 
 row_tells k x l y w h g e = go w (decide (l is 2)) (decide (l is 3))
   where
     none : (l is 2) ≡ false → (l is 3) ≡ false → touched_row l y ≡ 0
-    none p q = unfold touched_row in (if_false _ _ p ∙ if_false _ _ q)
+    none p q = unfold touched_row in (provided_false _ _ p ∙ provided_false _ _ q)
 
     go : (k ≡ 2) ⊎ (k ≡ 3) → ((l is 2) ≡ true) ⊎ ((l is 2) ≡ false) → ((l is 3) ≡ true) ⊎ ((l is 3) ≡ false) → (k ≡ l) × (x ≡ y)
     go (inl a) (inl b) c = let p : l ≡ 2 = is→ b in let r : suc x ≡ suc y = sym (reader_row x) ∙ ap (λ (n : ℕ). touched_row n x) (sym a) ∙ e ∙ ap (λ (n : ℕ). touched_row n y) p ∙ reader_row y in (a ∙ sym p, omega arith)

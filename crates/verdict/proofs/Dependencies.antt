@@ -6,7 +6,7 @@ use mathlib.Core.List.{List}
 use Prim.Native.Nat.{ℕ, ◌<◌}
 use native.Mathlib.Omega.{arith}
 use Rattle.words.specs.Tests.{◌is◌, ◌and◌, ◌or◌, some}
-use Rattle.words.proofs.Truth.{not_both, to_true, same_test, and→, →and, or→, →or_left, →or_right, →fails, fails→, is→, →is, isnt→, →isnt, some→, →some, none→}
+use Rattle.words.proofs.Truth.{same_test, and→, →and, or→, →or_left, →or_right, →fails, fails→, is→, →is, isnt→, →isnt, some→, →some}
 use Rattle.verdict.specs.Limits.{objects}
 use Rattle.verdict.specs.Log.{steps, kind, tx, obj, src, reads, writes, committed, writer}
 use Rattle.verdict.specs.Clean.{judged, judged_other, is_clean}

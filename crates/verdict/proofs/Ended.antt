@@ -5,7 +5,7 @@ use mathlib.Core.Logic.{◌⊎◌, inl, inr, ⊎_elim}
 use mathlib.Core.List.{List}
 use Prim.Native.Nat.{ℕ, ◌≤◌, ◌<◌}
 use native.Mathlib.Omega.{arith}
-use Rattle.words.specs.Tests.{◌is◌, ◌below◌, fails}
+use Rattle.words.specs.Tests.{◌below◌, fails}
 use Rattle.words.proofs.Truth.{decide, to_false, not_both, and→, or→, →or_left, →or_right, →fails, →not_fails, is→, below→, not_below→, some→, →some}
 use Rattle.verdict.specs.Limits.{transactions}
 use Rattle.verdict.specs.Log.{steps, kind, tx, writes, commits, aborts, begun, ended, committed, aborted, writer}

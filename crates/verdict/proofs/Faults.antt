@@ -1,16 +1,16 @@
 -- The clean verdict at a step and of a log, from the answers to the questions that decide it.
-use mathlib.Core.Path.{◌≡◌, refl, sym, ap, ◌∙◌}
+use mathlib.Core.Path.{◌≡◌, refl, ap, ◌∙◌}
 use mathlib.Core.Bool.{Bool, true, false}
 use mathlib.Core.List.{List}
 use Prim.Native.Nat.{ℕ, ◌≤◌, ◌<◌}
 use native.Mathlib.Omega.{arith}
-use Rattle.words.specs.Tests.{◌upto◌, fails, if◌then◌else◌, lowest}
-use Rattle.words.proofs.Truth.{to_false, not_both, and→, →and, and_no_left, and_no_right, and_true, →or_left, or_false, →fails, →not_fails, →is, →isnt, →upto, →not_upto, if_true, if_false, lowest_is, lowest_passes, lowest_bound, lowest_some, below_lowest}
+use Rattle.words.specs.Tests.{◌upto◌, fails, provided◌then◌else◌, lowest}
+use Rattle.words.proofs.Truth.{to_false, not_both, and→, →and, and_no_left, and_no_right, and_true, →or_left, or_false, →fails, →not_fails, →is, →isnt, →upto, →not_upto, provided_true, provided_false, lowest_is, lowest_passes, lowest_bound, lowest_some, below_lowest}
 use Rattle.words.proofs.Either.{lowest_either}
 use Rattle.verdict.specs.Log.{steps, obj, src, committed, aborted}
 use Rattle.verdict.specs.declared.answers.Fault.TheVariants.{Own, Aborted, Unfinal}
 use Rattle.verdict.specs.declared.answers.Cleanness.TheVariants.{Yes, Unclean}
-use Rattle.verdict.specs.Clean.{judged_other, after_own_write, writes_later, final_source, own_fault, source_fault, faulty_read, is_clean, fault_at, cleanness}
+use Rattle.verdict.specs.Clean.{judged_other, writes_later, final_source, own_fault, source_fault, faulty_read, is_clean, fault_at, cleanness}
 
 module _ (log : List ℕ) (i : ℕ) where
   pub not_faulty : judged_other log i ≡ false → source_fault log i ≡ false
@@ -45,28 +45,28 @@ module _ (log : List ℕ) (i : ℕ) where
 
 -- the verdict, by the first own fault and the first faulty source
 module _ (log : List ℕ) {own k : ℕ} (first_own : own ≡ lowest (steps log) (own_fault log)) (first_source : k ≡ lowest (steps log) (source_fault log)) where
-  first : lowest (steps log) (faulty_read log) ≡ (if own upto k then own else k)
+  first : lowest (steps log) (faulty_read log) ≡ (provided own upto k then own else k)
   unfolding faulty_read
   first = rw (first_own, first_source) (lowest_either (steps log) (own_fault log) (source_fault log))
 
   faulty : (f : ℕ) → lowest (steps log) (faulty_read log) ≡ f → f < steps log → cleanness log ≡ Unclean (fault_at log f)
   unfolding cleanness is_clean
-  faulty f e h = if_false _ _ (→not_fails (lowest_passes (faulty_read log) (rw e h))) ∙ ap (λ (j : ℕ). Unclean (fault_at log j)) e
+  faulty f e h = provided_false _ _ (→not_fails (lowest_passes (faulty_read log) (rw e h))) ∙ ap (λ (j : ℕ). Unclean (fault_at log j)) e
 
   -- the own fault comes first, or they are one
   module _ (h : own ≤ k) where
     own_first : lowest (steps log) (faulty_read log) ≡ own
-    own_first = first ∙ if_true _ _ (→upto h)
+    own_first = first ∙ provided_true _ _ (→upto h)
 
     pub no_fault : steps log ≤ own → cleanness log ≡ Yes
     unfolding cleanness is_clean
-    no_fault n = if_true _ _ (→fails (lowest_some (faulty_read log) (rw own_first n)))
+    no_fault n = provided_true _ _ (→fails (lowest_some (faulty_read log) (rw own_first n)))
 
     pub from_own : own < steps log → cleanness log ≡ Unclean (Own own)
     unfolding fault_at own_fault
     from_own n =
         let there : own_fault log own ≡ true = rw first_own (lowest_is {n = steps log} (own_fault log) (lowest_passes (own_fault log) (omega arith))).1 in
-        faulty own own_first n ∙ ap Unclean (if_true _ _ (and→ {a = judged_other log own} there).1)
+        faulty own own_first n ∙ ap Unclean (provided_true _ _ (and→ {a = judged_other log own} there).1)
 
   -- the faulty source comes first
   module _ (h : k < own) where
@@ -76,14 +76,14 @@ module _ (log : List ℕ) {own k : ℕ} (first_own : own ≡ lowest (steps log) 
     pub faulty_there : source_fault log k ≡ true
     faulty_there = rw first_source (lowest_is {n = steps log} (source_fault log) (lowest_passes (source_fault log) (omega (arith, source_in_log)))).1
 
-    faulty_source_first : cleanness log ≡ Unclean (if aborted log (src log k) then Aborted k else Unfinal k)
+    faulty_source_first : cleanness log ≡ Unclean (provided aborted log (src log k) then Aborted k else Unfinal k)
     unfolding fault_at own_fault source_fault
     faulty_source_first =
-        faulty k (first ∙ if_false _ _ (→not_upto h)) source_in_log
-        ∙ ap Unclean (if_false _ _ (to_false _ (λ w. not_both (→and (and→ faulty_there).0 w) (below_lowest (steps log) (own_fault log) k (omega arith)))))
+        faulty k (first ∙ provided_false _ _ (→not_upto h)) source_in_log
+        ∙ ap Unclean (provided_false _ _ (to_false _ (λ w. not_both (→and (and→ faulty_there).0 w) (below_lowest (steps log) (own_fault log) k (omega arith)))))
 
     pub from_aborted : aborted log (src log k) ≡ true → cleanness log ≡ Unclean (Aborted k)
-    from_aborted a = faulty_source_first ∙ ap Unclean (if_true _ _ a)
+    from_aborted a = faulty_source_first ∙ ap Unclean (provided_true _ _ a)
 
     pub from_unfinal : aborted log (src log k) ≡ false → cleanness log ≡ Unclean (Unfinal k)
-    from_unfinal a = faulty_source_first ∙ ap Unclean (if_false _ _ a)
+    from_unfinal a = faulty_source_first ∙ ap Unclean (provided_false _ _ a)

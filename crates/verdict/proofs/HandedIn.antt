@@ -9,7 +9,7 @@ use lib.ListN.{length, get_or, take, drop, drop_of_length-le}
 use lib.Seq.{drop-cons, take-suc}
 use Rattle.words.specs.Tests.{◌is◌}
 use Rattle.words.specs.Lists.{all}
-use Rattle.words.proofs.Truth.{→and, and_true, and_no_left, and_no_right, →fails, →not_fails, →is, →isnt, if_true, if_false}
+use Rattle.words.proofs.Truth.{→and, and_true, and_no_left, and_no_right, →fails, →not_fails, →is, →isnt, provided_true, provided_false}
 use Rattle.verdict.specs.Limits.{transactions}
 use Rattle.verdict.specs.Clean.{is_clean}
 use Rattle.verdict.specs.Replay.{explains_loosely, explains}
@@ -29,19 +29,19 @@ front_none handed_in = record { front = refl; back = refl }
 module _ (t : ℕ) (l : List ℕ) where
   pub stops : t ≡ 0 → up_to_zero (t ∷ l) ≡ []
   unfolding up_to_zero
-  stops z = if_true _ _ (→is z)
+  stops z = provided_true _ _ (→is z)
 
   pub goes : (t ≡ 0 → ⊥) → up_to_zero (t ∷ l) ≡ t ∷ up_to_zero l
   unfolding up_to_zero
-  goes n = if_false _ _ (→isnt n)
+  goes n = provided_false _ _ (→isnt n)
 
   pub starts : t ≡ 0 → from_zero (t ∷ l) ≡ t ∷ l
   unfolding from_zero
-  starts z = if_true _ _ (→is z)
+  starts z = provided_true _ _ (→is z)
 
   pub passes : (t ≡ 0 → ⊥) → from_zero (t ∷ l) ≡ from_zero l
   unfolding from_zero
-  passes n = if_false _ _ (→isnt n)
+  passes n = provided_false _ _ (→isnt n)
 
 module _ (handed_in : List ℕ) (i : ℕ) (h : i < length handed_in) (f : Front handed_in i) where
   split : drop i handed_in ≡ get_or handed_in i 0 ∷ drop (suc i) handed_in

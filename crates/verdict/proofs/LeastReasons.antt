@@ -8,9 +8,9 @@ use native.Mathlib.Omega.{arith}
 use native.Mathlib.Nat.{le_of_eq}
 use lib.ListN.{length, get_or, set, replicate, length-set, length-replicate, get_or-replicate, get_or-eq_default}
 use lib.Seq.{get_or-set_same, get_or-set_other}
-use Rattle.words.specs.Tests.{◌is◌, ◌below◌, ◌and◌, ◌or◌, if◌then◌else◌, some}
+use Rattle.words.specs.Tests.{◌is◌, ◌below◌, ◌and◌, ◌or◌, provided◌then◌else◌, some}
 use Rattle.words.specs.Lists.{member, distinct}
-use Rattle.words.proofs.Truth.{decide, not_both, to_false, same_test, and→, →and, or→, →or_left, →or_right, or_no, and_no_left, →fails, is→, →is, isnt→, →isnt, below→, not_below→, if_true, if_false, none→, lowest_is}
+use Rattle.words.proofs.Truth.{decide, not_both, to_false, same_test, and→, →and, or→, →or_left, →or_right, or_no, and_no_left, →fails, is→, →is, isnt→, →isnt, below→, not_below→, provided_true, provided_false, none→, lowest_is}
 use Rattle.words.proofs.Places.{member_head, member_tail, all→, distinct→}
 use Rattle.graph.specs.Cycle.{leads, is_cycle}
 use Rattle.verdict.specs.Limits.{transactions, objects}
@@ -101,17 +101,17 @@ module _ {on other : ℕ → ℕ → Bool} {e : ℕ} (l : Least on e) (fits : Bo
     where
       go : (fits ≡ true) ⊎ (fits ≡ false) → Least other (number_if fits y m)
       go (inl t) =
-          rw (if_true (reason_number y m) no_reason t)
+          rw (provided_true (reason_number y m) no_reason t)
           (record {
             one = inr (y, m, m_low, refl, more y m ∙ →or_right _ (→and (→and t (→is refl)) (→is refl)));
             least = λ x k q. ⊎_elim
-                (λ o. let a : e ≤ reason_number x k = l.least x k o in let b : reason_number y m < e = rw (if_true (reason_number y m) no_reason t) at h in omega arith)
+                (λ o. let a : e ≤ reason_number x k = l.least x k o in let b : reason_number y m < e = rw (provided_true (reason_number y m) no_reason t) at h in omega arith)
                 (λ o. let u : y ≡ x = is→ (and→ (and→ o).0).1 in let v : m ≡ k = is→ (and→ o).1 in le_of_eq (ap₂ reason_number u v))
                 (or→ (sym (more x k) ∙ q));
           })
       go (inr f) =
-          let b : no_reason < e = rw (if_false (reason_number y m) no_reason f) at h in
-          rw (if_false (reason_number y m) no_reason f)
+          let b : no_reason < e = rw (provided_false (reason_number y m) no_reason f) at h in
+          rw (provided_false (reason_number y m) no_reason f)
           (record {
             one = inl refl;
             least = λ x k q. ⊎_elim (λ o. let a : e ≤ reason_number x k = l.least x k o in omega arith) (λ o. absurd (not_both (and→ (and→ o).0).0 f)) (or→ (sym (more x k) ∙ q));
@@ -126,7 +126,7 @@ module _ {on other : ℕ → ℕ → Bool} {e : ℕ} (l : Least on e) (fits : Bo
             (λ o. let u : y ≡ x = is→ (and→ (and→ o).0).1 in
             let v : m ≡ k = is→ (and→ o).1 in
             let t : fits ≡ true = (and→ (and→ o).0).0 in
-            let b : e ≤ reason_number y m = rw (if_true (reason_number y m) no_reason t) at h in
+            let b : e ≤ reason_number y m = rw (provided_true (reason_number y m) no_reason t) at h in
             rw (← u, ← v) b)
             (or→ (sym (more x k) ∙ q));
       }
@@ -135,7 +135,7 @@ module _ {on other : ℕ → ℕ → Bool} {e : ℕ} (l : Least on e) (fits : Bo
 pub offered_length : (table : List ℕ) (a e : ℕ) → length (offered table a e) ≡ length table
 unfolding offered
 offered_length table a e =
-    ⊎_elim (λ t. ap length (if_true (set table a e) table t) ∙ length-set table a e) (λ t. ap length (if_false (set table a e) table t)) (decide (e below get_or table a 0))
+    ⊎_elim (λ t. ap length (provided_true (set table a e) table t) ∙ length-set table a e) (λ t. ap length (provided_false (set table a e) table t)) (decide (e below get_or table a 0))
 
 module _ {c : List ℕ} where
   pub best_none : {on : ℕ → ℕ → ℕ → ℕ → Bool} → Ring c → ((a b x k : ℕ) → on a b x k ≡ false) → Best c on (replicate (suc transactions) no_reason)
@@ -165,9 +165,9 @@ module _ {c : List ℕ} where
       elsewhere : (i : ℕ) → i < length c → (a ≡ get_or c i 0 → ⊥) → (x k : ℕ) → other (get_or c i 0) (follower c i) x k ≡ on (get_or c i 0) (follower c i) x k
       elsewhere i h e x k = more i h x k ∙ or_no _ (and_no_left _ (→isnt e))
 
-      go : ((n below get_or table a 0) ≡ true) ⊎ ((n below get_or table a 0) ≡ false) → Best c other (if n below get_or table a 0 then set table a n else table)
+      go : ((n below get_or table a 0) ≡ true) ⊎ ((n below get_or table a 0) ≡ false) → Best c other (provided n below get_or table a 0 then set table a n else table)
       go (inl t) =
-          rw (if_true (set table a n) table t)
+          rw (provided_true (set table a n) table t)
           (record {
             size = length-set table a n ∙ b.size;
             each = λ i h. ⊎_elim
@@ -179,7 +179,7 @@ module _ {c : List ℕ} where
                 (decide (a is get_or c i 0));
           })
       go (inr t) =
-          rw (if_false (set table a n) table t)
+          rw (provided_false (set table a n) table t)
           (record {
             size = b.size;
             each = λ i h. ⊎_elim
@@ -200,7 +200,7 @@ module _ {c : List ℕ} where
       → Best c (with_edge on s t y m) (offered table s (reason_number y m))
   unfolding with_edge edge_on number_if
   edge_offered {before} {table} {on} p b s t y m s_high t_high m_low f =
-      rw (if_true (reason_number y m) no_reason refl) at
+      rw (provided_true (reason_number y m) no_reason refl) at
       (best_more {other = with_edge on s t y m} b s s_high true y m m_low (λ i h x k. ap (λ (z : Bool). on (get_or c i 0) (follower c i) x k or z) (same_test (there i x k) (back i h x k))))
     where
       there : (i x k : ℕ) → (s is get_or c i 0 and t is follower c i and y is x and m is k) ≡ true → (s is get_or c i 0 and (true and y is x and m is k)) ≡ true

@@ -7,8 +7,8 @@ use Prim.Native.Nat.{ℕ, suc, ◌+◌, ◌≤◌, ◌<◌}
 use native.Mathlib.Omega.{arith}
 use lib.ListN.{get_or, set, replicate, length-set, length-replicate, get_or-replicate}
 use lib.Seq.{get_or-set_same, get_or-set_other}
-use Rattle.words.specs.Tests.{◌is◌, ◌and◌, ◌or◌, fails, if◌then◌else◌, some}
-use Rattle.words.proofs.Truth.{decide, not_both, to_false, →and, and_no_left, and_no_right, →or_left, →or_right, or_no, is→, →is, isnt→, →isnt, if_true, if_false, →some, some_skip, some_next}
+use Rattle.words.specs.Tests.{◌is◌, ◌and◌, ◌or◌, fails, provided◌then◌else◌, some}
+use Rattle.words.proofs.Truth.{decide, not_both, to_false, →and, and_no_left, and_no_right, →or_left, →or_right, or_no, is→, →is, isnt→, →isnt, provided_true, provided_false, →some, some_skip, some_next}
 use Rattle.verdict.specs.Limits.{transactions}
 use Rattle.verdict.specs.Log.{steps, kind, tx, begins, commits, aborts, begun, ended}
 use Rattle.verdict.specs.Refusal.{◌at◌when◌, tried, life_refusal, open_refusal}
@@ -21,22 +21,22 @@ use Rattle.verdict.proofs.Refused.{tried_same}
 module _ (log : List ℕ) (i t : ℕ) where
   pub life_fresh : begun log i t ≡ false → life log i t ≡ 0
   unfolding life
-  life_fresh b = if_false _ _ b
+  life_fresh b = provided_false _ _ b
 
   pub life_open : begun log i t ≡ true → ended log i t ≡ false → life log i t ≡ 1
   unfolding life
-  life_open b e = if_true _ _ b ∙ if_false _ _ e
+  life_open b e = provided_true _ _ b ∙ provided_false _ _ e
 
   pub life_over : begun log i t ≡ true → ended log i t ≡ true → life log i t ≡ 2
   unfolding life
-  life_over b e = if_true _ _ b ∙ if_true _ _ e
+  life_over b e = provided_true _ _ b ∙ provided_true _ _ e
 
   -- open exactly when begun and not ended
   pub open_is : (life log i t is 1) ≡ (begun log i t and fails (ended log i t))
-  unfolding life if◌then◌else◌ ◌is◌ ◌and◌ fails
+  unfolding life provided◌then◌else◌ ◌is◌ ◌and◌ fails
   open_is = go (begun log i t) (ended log i t)
     where
-      go : (b e : Bool) → ((if b then (if e then 2 else 1) else 0) is 1) ≡ (b and fails e)
+      go : (b e : Bool) → ((provided b then (provided e then 2 else 1) else 0) is 1) ≡ (b and fails e)
       go true true = refl
       go true false = refl
       go false e = refl
@@ -44,39 +44,39 @@ module _ (log : List ℕ) (i t : ℕ) where
 -- WHICH OF 7 AND 8 FOLLOWS
 module _ (log : List ℕ) (i : ℕ) where
   -- what is awaited
-  module _ (same : life log i (tx log i) ≡ (if kind log i is 1 then 0 else 1)) where
+  module _ (same : life log i (tx log i) ≡ (provided kind log i is 1 then 0 else 1)) where
     pub life_passes : life_refusal log i ≡ Passed
     life_passes = go (decide (kind log i is 1)) (decide (begun log i (tx log i))) (decide (ended log i (tx log i)))
       where
         go : ((kind log i is 1) ≡ true) ⊎ ((kind log i is 1) ≡ false) → (begun log i (tx log i) ≡ true) ⊎ (begun log i (tx log i) ≡ false)
             → (ended log i (tx log i) ≡ true) ⊎ (ended log i (tx log i) ≡ false) → life_refusal log i ≡ Passed
         go (inl k) (inr b) e = begins_now log i (is→ k) b
-        go (inl k) (inl b) (inl e) = absurd (differ (sym (life_over log i (tx log i) b e) ∙ same ∙ if_true _ _ k))
+        go (inl k) (inl b) (inl e) = absurd (differ (sym (life_over log i (tx log i) b e) ∙ same ∙ provided_true _ _ k))
           where
             differ : ◌≡◌ {A = ℕ} 2 0 → ⊥
             differ z = omega arith
-        go (inl k) (inl b) (inr e) = absurd (differ (sym (life_open log i (tx log i) b e) ∙ same ∙ if_true _ _ k))
+        go (inl k) (inl b) (inr e) = absurd (differ (sym (life_open log i (tx log i) b e) ∙ same ∙ provided_true _ _ k))
           where
             differ : ◌≡◌ {A = ℕ} 1 0 → ⊥
             differ z = omega arith
         go (inr k) (inl b) (inr e) = under_way log i (isnt→ k) b e
-        go (inr k) (inl b) (inl e) = absurd (differ (sym (life_over log i (tx log i) b e) ∙ same ∙ if_false _ _ k))
+        go (inr k) (inl b) (inl e) = absurd (differ (sym (life_over log i (tx log i) b e) ∙ same ∙ provided_false _ _ k))
           where
             differ : ◌≡◌ {A = ℕ} 2 1 → ⊥
             differ z = omega arith
-        go (inr k) (inr b) e = absurd (differ (sym (life_fresh log i (tx log i) b) ∙ same ∙ if_false _ _ k))
+        go (inr k) (inr b) e = absurd (differ (sym (life_fresh log i (tx log i) b) ∙ same ∙ provided_false _ _ k))
           where
             differ : ◌≡◌ {A = ℕ} 0 1 → ⊥
             differ z = omega arith
 
   -- anything else
-  module _ (other : life log i (tx log i) ≡ (if kind log i is 1 then 0 else 1) → ⊥) where
+  module _ (other : life log i (tx log i) ≡ (provided kind log i is 1 then 0 else 1) → ⊥) where
     life_7 : kind log i ≡ 1 → life_refusal log i ≡ Refused 7 i
     life_7 k = go (decide (begun log i (tx log i)))
       where
         go : (begun log i (tx log i) ≡ true) ⊎ (begun log i (tx log i) ≡ false) → life_refusal log i ≡ Refused 7 i
         go (inl b) = begun_again log i k b
-        go (inr b) = absurd (other (life_fresh log i (tx log i) b ∙ sym (if_true _ _ (→is k))))
+        go (inr b) = absurd (other (life_fresh log i (tx log i) b ∙ sym (provided_true _ _ (→is k))))
 
     life_8 : (kind log i ≡ 1 → ⊥) → life_refusal log i ≡ Refused 8 i
     life_8 k = go (decide (begun log i (tx log i))) (decide (ended log i (tx log i)))
@@ -84,13 +84,13 @@ module _ (log : List ℕ) (i : ℕ) where
         go : (begun log i (tx log i) ≡ true) ⊎ (begun log i (tx log i) ≡ false) → (ended log i (tx log i) ≡ true) ⊎ (ended log i (tx log i) ≡ false) → life_refusal log i ≡ Refused 8 i
         go (inr b) e = not_begun log i k b
         go (inl b) (inl e) = has_ended log i k e
-        go (inl b) (inr e) = absurd (other (life_open log i (tx log i) b e ∙ sym (if_false _ _ (→isnt k))))
+        go (inl b) (inr e) = absurd (other (life_open log i (tx log i) b e ∙ sym (provided_false _ _ (→isnt k))))
 
     -- the number that its kind gets
-    pub life_late : {n : ℕ} → n ≡ (if kind log i is 1 then 7 else 8) → numbered n i ≡ life_refusal log i
+    pub life_late : {n : ℕ} → n ≡ (provided kind log i is 1 then 7 else 8) → numbered n i ≡ life_refusal log i
     unfolding numbered ◌at◌when◌ fails ◌is◌
     life_late e =
-        ⊎_elim (λ k. rw (e ∙ if_true _ _ k) (sym (life_7 (is→ k)))) (λ k. rw (e ∙ if_false _ _ k) (sym (life_8 (isnt→ k)))) (decide (kind log i is 1))
+        ⊎_elim (λ k. rw (e ∙ provided_true _ _ k) (sym (life_7 (is→ k)))) (λ k. rw (e ∙ provided_false _ _ k) (sym (life_8 (isnt→ k)))) (decide (kind log i is 1))
 
 -- after the last step, the table says who is open
 pub open_lived : (log : List ℕ) {l : List ℕ} → Lived log (steps log) l → tried (suc transactions) (open_by_lives l) ≡ tried (suc transactions) (open_refusal log)

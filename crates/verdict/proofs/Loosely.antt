@@ -8,11 +8,11 @@ use native.Mathlib.Omega.{arith}
 use native.Mathlib.Numerals.{add-one}
 use lib.ListN.{length, get_or, set, take}
 use lib.Seq.{take-suc-set}
-use Rattle.words.specs.Tests.{◌is◌, ◌below◌, ◌and◌, ◌or◌, ◌implies◌, if◌then◌else◌, every, lowest}
+use Rattle.words.specs.Tests.{◌is◌, ◌below◌, ◌and◌, ◌or◌, ◌implies◌, provided◌then◌else◌, every, lowest}
 use Rattle.words.specs.Lists.{member, distinct}
 use Rattle.words.specs.First.{dictionary, First, Never}
 use Rattle.graph.specs.Order.{once_each}
-use Rattle.words.proofs.Truth.{decide, not_both, to_false, and→, →and, and_true_right, and_no_left, and_no_right, →or_left, →or_right, or_false, →fails, implies→, →implies, is→, →is, isnt→, →isnt, below→, →below, not_below→, if_true, if_false, every→, →every, below_lowest}
+use Rattle.words.proofs.Truth.{decide, not_both, to_false, and→, →and, and_true_right, and_no_left, and_no_right, →or_left, →or_right, or_false, →fails, implies→, →implies, is→, →is, isnt→, →isnt, below→, →below, not_below→, provided_true, provided_false, every→, →every, below_lowest}
 use Rattle.words.proofs.Places.{member→, member_head, member_tail, all→, →all, distinct→, member_right, member_either}
 use Rattle.words.proofs.Dictionary.{dictionary_not}
 use Rattle.bits.specs.Word.{marked, less}
@@ -39,21 +39,21 @@ unfolding needing allows barred
 needing_allows e s v p q = go (decide (e is 0)) (decide (e is suc s)) (decide (v is s))
   where
     go : ((e is 0) ≡ true) ⊎ ((e is 0) ≡ false) → ((e is suc s) ≡ true) ⊎ ((e is suc s) ≡ false) → ((v is s) ≡ true) ⊎ ((v is s) ≡ false)
-        → ((if e is 0 then suc s else if e is suc s then e else 255) is 0 or (if e is 0 then suc s else if e is suc s then e else 255) is suc v) ≡ ((e is 0 or e is suc v) and v is s)
+        → ((provided e is 0 then suc s else provided e is suc s then e else 255) is 0 or (provided e is 0 then suc s else provided e is suc s then e else 255) is suc v) ≡ ((e is 0 or e is suc v) and v is s)
     go (inl z) b (inl c) =
-        rw (if_true (suc s) (if e is suc s then e else 255) z) (→or_right _ (→is (ap suc (sym (is→ c)))) ∙ sym (→and (→or_left _ z) c))
+        rw (provided_true (suc s) (provided e is suc s then e else 255) z) (→or_right _ (→is (ap suc (sym (is→ c)))) ∙ sym (→and (→or_left _ z) c))
     go (inl z) b (inr c) =
-        rw (if_true (suc s) (if e is suc s then e else 255) z)
+        rw (provided_true (suc s) (provided e is suc s then e else 255) z)
         (or_false (→isnt (λ (k : suc s ≡ 0). omega arith)) ∙ →isnt (λ (k : suc s ≡ suc v). isnt→ c (omega arith)) ∙ sym (and_no_right _ c))
     go (inr z) (inl b) (inl c) =
         let k : (e is suc v) ≡ true = →is (is→ b ∙ ap suc (sym (is→ c))) in
-        rw (if_false (suc s) (if e is suc s then e else 255) z, if_true e 255 b) (→or_right _ k ∙ sym (→and (→or_right _ k) c))
+        rw (provided_false (suc s) (provided e is suc s then e else 255) z, provided_true e 255 b) (→or_right _ k ∙ sym (→and (→or_right _ k) c))
     go (inr z) (inl b) (inr c) =
         let w : e ≡ suc s = is→ b in
         let n : e ≡ suc v → ⊥ = λ (k : e ≡ suc v). isnt→ c (omega arith) in
-        rw (if_false (suc s) (if e is suc s then e else 255) z, if_true e 255 b) (or_false z ∙ →isnt n ∙ sym (and_no_right _ c))
+        rw (provided_false (suc s) (provided e is suc s then e else 255) z, provided_true e 255 b) (or_false z ∙ →isnt n ∙ sym (and_no_right _ c))
     go (inr z) (inr b) c =
-        rw (if_false (suc s) (if e is suc s then e else 255) z, if_false e 255 b)
+        rw (provided_false (suc s) (provided e is suc s then e else 255) z, provided_false e 255 b)
         (or_false (→isnt (λ (k : ◌≡◌ {A = ℕ} 255 0). omega arith)) ∙ →isnt (λ (k : 255 ≡ suc v). omega arith) ∙ sym (neither c))
       where
         neither : ((v is s) ≡ true) ⊎ ((v is s) ≡ false) → ((e is 0 or e is suc v) and v is s) ≡ false
@@ -77,11 +77,11 @@ module _ {e : ℕ} (v : ℕ) where
 module _ (log : List ℕ) (t x : ℕ) where
   pub need_more : (i : ℕ) → needs_source log t x i ≡ true → need log t x (i + 1) ≡ needing (need log t x i) (src log i)
   unfolding need
-  need_more i h = rw (add-one i) (if_true _ _ h)
+  need_more i h = rw (add-one i) (provided_true _ _ h)
 
   pub need_same : (i : ℕ) → needs_source log t x i ≡ false → need log t x (i + 1) ≡ need log t x i
   unfolding need
-  need_same i h = rw (add-one i) (if_false _ _ h)
+  need_same i h = rw (add-one i) (provided_false _ _ h)
 
   -- the need allows just the sources that every such read names
   pub need_allows : (n v : ℕ) → ((i : ℕ) → i < n → needs_source log t x i ≡ true → src log i ≤ transactions) → v ≤ transactions → allows (need log t x n) v ≡ every n (λ i. needs_source log t x i implies v is src log i)
@@ -90,12 +90,12 @@ module _ (log : List ℕ) (t x : ℕ) where
   need_allows (suc n) v f h = go (decide (needs_source log t x n)) (need_allows n v (λ (i : ℕ) (l : i < n). f i (omega arith)) h)
     where
       go : (needs_source log t x n ≡ true) ⊎ (needs_source log t x n ≡ false) → allows (need log t x n) v ≡ every n (λ i. needs_source log t x i implies v is src log i)
-          → allows (if needs_source log t x n then needing (need log t x n) (src log n) else need log t x n) v ≡ (every n (λ i. needs_source log t x i implies v is src log i) and (needs_source log t x n implies v is src log n))
+          → allows (provided needs_source log t x n then needing (need log t x n) (src log n) else need log t x n) v ≡ (every n (λ i. needs_source log t x i implies v is src log i) and (needs_source log t x n implies v is src log n))
       go (inl k) rec =
-          rw (if_true (needing (need log t x n) (src log n)) (need log t x n) k)
+          rw (provided_true (needing (need log t x n) (src log n)) (need log t x n) k)
           (needing_allows (need log t x n) (src log n) v (f n (omega arith) k) h ∙ ap (λ (b : Bool). b and v is src log n) rec ∙ ap (λ (b : Bool). every n (λ i. needs_source log t x i implies v is src log i) and b) (sym (implies_true k)))
       go (inr k) rec =
-          rw (if_false (needing (need log t x n) (src log n)) (need log t x n) k)
+          rw (provided_false (needing (need log t x n) (src log n)) (need log t x n) k)
           (rec ∙ sym (and_true_right _ (→implies (λ q. absurd (not_both q k)))))
 
   -- whether step i makes t need a source of x, from the answers to the questions that decide it
@@ -122,34 +122,34 @@ module _ (log : List ℕ) (x : ℕ) where
   pub finds_in : (r v : ℕ) (p u : List ℕ) → member r p ≡ true → finds log x r v (p ++ u) ≡ finds log x r v p
   unfolding finds member
   finds_in r v [] u m = absurd (false≢true m)
-  finds_in r v (t ∷ p) u m = go (decide (t is r)) (member→ r t p m) (λ k. finds_in r (if writer log x t then t else v) p u k)
+  finds_in r v (t ∷ p) u m = go (decide (t is r)) (member→ r t p m) (λ k. finds_in r (provided writer log x t then t else v) p u k)
     where
-      go : ((t is r) ≡ true) ⊎ ((t is r) ≡ false) → (r ≡ t) ⊎ (member r p ≡ true) → (member r p ≡ true → finds log x r (if writer log x t then t else v) (p ++ u) ≡ finds log x r (if writer log x t then t else v) p)
-          → (if t is r then v else finds log x r (if writer log x t then t else v) (p ++ u)) ≡ (if t is r then v else finds log x r (if writer log x t then t else v) p)
-      go (inl e) c rec = if_true _ _ e ∙ sym (if_true _ _ e)
+      go : ((t is r) ≡ true) ⊎ ((t is r) ≡ false) → (r ≡ t) ⊎ (member r p ≡ true) → (member r p ≡ true → finds log x r (provided writer log x t then t else v) (p ++ u) ≡ finds log x r (provided writer log x t then t else v) p)
+          → (provided t is r then v else finds log x r (provided writer log x t then t else v) (p ++ u)) ≡ (provided t is r then v else finds log x r (provided writer log x t then t else v) p)
+      go (inl e) c rec = provided_true _ _ e ∙ sym (provided_true _ _ e)
       go (inr e) (inl c) rec = absurd (isnt→ e (sym c))
-      go (inr e) (inr c) rec = if_false _ _ e ∙ rec c ∙ sym (if_false _ _ e)
+      go (inr e) (inr c) rec = provided_false _ _ e ∙ rec c ∙ sym (provided_false _ _ e)
 
   -- of what comes right behind it
   pub finds_behind : (r v : ℕ) (p u : List ℕ) → member r p ≡ false → finds log x r v (p ++ r ∷ u) ≡ ran log x v p
   unfolding finds ran
-  finds_behind r v [] u m = if_true _ _ (→is refl)
+  finds_behind r v [] u m = provided_true _ _ (→is refl)
   finds_behind r v (t ∷ p) u m =
-      if_false _ _ (→isnt (λ (e : t ≡ r). not_both (subst (λ (z : ℕ). member z (t ∷ p) ≡ true) e (member_head t p)) m))
-      ∙ finds_behind r (if writer log x t then t else v) p u (to_false _ (λ k. not_both (member_tail r t p k) m))
+      provided_false _ _ (→isnt (λ (e : t ≡ r). not_both (subst (λ (z : ℕ). member z (t ∷ p) ≡ true) e (member_head t p)) m))
+      ∙ finds_behind r (provided writer log x t then t else v) p u (to_false _ (λ k. not_both (member_tail r t p k) m))
 
-  pub ran_more : (v t : ℕ) (p : List ℕ) → ran log x v (p ++ t ∷ []) ≡ (if writer log x t then t else ran log x v p)
+  pub ran_more : (v t : ℕ) (p : List ℕ) → ran log x v (p ++ t ∷ []) ≡ (provided writer log x t then t else ran log x v p)
   unfolding ran
   ran_more v t [] = refl
-  ran_more v t (a ∷ p) = ran_more (if writer log x a then a else v) t p
+  ran_more v t (a ∷ p) = ran_more (provided writer log x a then a else v) t p
 
   -- it is v, or one of the beginning
   pub ran_bound : (n v : ℕ) (p : List ℕ) → v ≤ n → ((a : ℕ) → member a p ≡ true → a ≤ n) → ran log x v p ≤ n
   unfolding ran
   ran_bound n v [] h f = h
   ran_bound n v (t ∷ p) h f =
-      ran_bound n (if writer log x t then t else v) p
-      (⊎_elim (λ (k : writer log x t ≡ true). rw (if_true t v k) (f t (member_head t p))) (λ (k : writer log x t ≡ false). rw (if_false t v k) h) (decide (writer log x t)))
+      ran_bound n (provided writer log x t then t else v) p
+      (⊎_elim (λ (k : writer log x t ≡ true). rw (provided_true t v k) (f t (member_head t p))) (λ (k : writer log x t ≡ false). rw (provided_false t v k) h) (decide (writer log x t)))
       (λ a m. f a (member_tail a t p m))
 
 -- LISTS WITH ONE MORE AT THE END
@@ -219,14 +219,14 @@ module _ (log : List ℕ) (well : Well transactions log) where
               subst (λ (r : ℕ). finds log x r 0 (p ++ t ∷ []) ≡ src log i) (sym e) (finds_behind log x t 0 p [] n ∙ is→ q)
 
       pub placed_more : ((x : ℕ) → x < objects → allows (need log t x (steps log)) (ran log x 0 p) ≡ true) → (last' : List ℕ) → length last' ≡ length last
-          → ((x : ℕ) → x < objects → get_or last' x 0 ≡ (if writer log x t then t else get_or last x 0)) → Replayed log (p ++ t ∷ []) last'
+          → ((x : ℕ) → x < objects → get_or last' x 0 ≡ (provided writer log x t then t else get_or last x 0)) → Replayed log (p ++ t ∷ []) last'
       placed_more f last' s w =
           record {
             different = distinct_more t p placed.different n;
             members = →all _ (p ++ t ∷ []) (λ a k. ⊎_elim (λ l. all→ _ p placed.members a l) (λ (l : member a (t ∷ []) ≡ true). ⊎_elim (λ (e : a ≡ t). rw e c) (λ (z : member a [] ≡ true). absurd (false≢true (unfold member in z))) (member→ a t [] l)) (member_either a p (t ∷ []) k));
             right = right_more f;
             size = s ∙ placed.size;
-            writers = λ x h. w x h ∙ ap (λ (v : ℕ). if writer log x t then t else v) (placed.writers x h) ∙ sym (ran_more log x 0 t p);
+            writers = λ x h. w x h ∙ ap (λ (v : ℕ). provided writer log x t then t else v) (placed.writers x h) ∙ sym (ran_more log x 0 t p);
           }
 
       -- a need that does not allow what t would find bars every order that goes on with t

@@ -6,7 +6,7 @@ use mathlib.Core.List.{List}
 use Prim.Native.Nat.{ℕ, suc, ◌≤◌}
 use native.Mathlib.Omega.{arith}
 use lib.ListN.{length, replicate, length-replicate}
-use Rattle.words.specs.Tests.{◌is◌, ◌upto◌, ◌and◌, ◌or◌, some}
+use Rattle.words.specs.Tests.{◌is◌, ◌upto◌, ◌and◌, ◌or◌}
 use Rattle.words.specs.Lists.{zeros}
 use Rattle.graph.specs.Order.{is_order}
 use Rattle.graph.specs.Matrix.{matrix_order, row_words, takes_part, joined, in_row, Joins, Sorts}

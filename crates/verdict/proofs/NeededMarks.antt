@@ -7,8 +7,8 @@ use Prim.Native.Nat.{ℕ, ◌+◌, ◌-◌, ◌*◌, ◌≤◌, ◌<◌}
 use native.Mathlib.Omega.{arith}
 use lib.ListN.{length, get_or, set}
 use lib.Seq.{get_or-set_same, get_or-set_other}
-use Rattle.words.specs.Tests.{◌is◌, ◌below◌, ◌or◌, fails, if◌then◌else◌, every, some}
-use Rattle.words.proofs.Truth.{decide, not_both, to_false, →or_left, or_false, →fails, →not_fails, not_fails→, is→, →is, isnt→, →isnt, →below, if_true, →every, every→, none→}
+use Rattle.words.specs.Tests.{◌is◌, ◌below◌, ◌or◌, fails, provided◌then◌else◌, every, some}
+use Rattle.words.proofs.Truth.{decide, not_both, to_false, →or_left, or_false, →fails, →not_fails, not_fails→, is→, →is, isnt→, →isnt, →below, provided_true, →every, every→, none→}
 use Rattle.bits.specs.Word.{marked, more, less}
 use Rattle.bits.proofs.Marks.{no_mark, marked_more}
 use Rattle.bits.proofs.Walks.{unturned}
@@ -41,9 +41,9 @@ module _ {need : List ℕ} {t x marks : ℕ} (known : NeededBelow need t x marks
       go y h (inl q) = let e : y ≡ x = is→ q in rw e (known.high x (omega arith) ∙ sym (→not_fails (→is z)))
       go y h (inr q) = let e : y ≡ x → ⊥ = isnt→ q in known.low y (omega arith)
 
-  pub needed_some_of : x < objects → (get_or need (t * objects + x) 0 ≡ 0 → ⊥) → NeededBelow need t (x + 1) (if x below 64 then more marks x else marks)
+  pub needed_some_of : x < objects → (get_or need (t * objects + x) 0 ≡ 0 → ⊥) → NeededBelow need t (x + 1) (provided x below 64 then more marks x else marks)
   needed_some_of l n =
-      rw (if_true (more marks x) marks (→below l))
+      rw (provided_true (more marks x) marks (→below l))
       (record { low = λ y h. marked_more marks x y ∙ go y h (decide (y is x)); high = λ (y : ℕ) (h : x + 1 ≤ y). marked_more marks x y ∙ or_false (→isnt (λ (e : y ≡ x). omega arith)) ∙ known.high y (omega arith) })
     where
       go : (y : ℕ) → y < x + 1 → ((y is x) ≡ true) ⊎ ((y is x) ≡ false) → ((y is x) or marked marks y) ≡ fails (get_or need (t * objects + y) 0 is 0)

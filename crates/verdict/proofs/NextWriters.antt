@@ -7,8 +7,8 @@ use Prim.Native.Nat.{ℕ, zero, suc, ◌+◌, ◌-◌, ◌*◌, ◌≤◌, ◌<�
 use native.Mathlib.Omega.{arith}
 use lib.ListN.{length, get_or, set, replicate, length-set, length-replicate, get_or-replicate}
 use lib.Seq.{get_or-set_same, get_or-set_other}
-use Rattle.words.specs.Tests.{◌is◌, ◌below◌, ◌upto◌, ◌and◌, ◌or◌, if◌then◌else◌, some, lowest}
-use Rattle.words.proofs.Truth.{decide, not_both, →and, and_no_left, and_no_right, →or_left, →or_right, or_false, is→, →is, isnt→, →isnt, →below, →not_below, if_true, if_false, →some, none→, lowest_is, lowest_passes}
+use Rattle.words.specs.Tests.{◌is◌, ◌below◌, ◌upto◌, ◌and◌, ◌or◌, provided◌then◌else◌, some, lowest}
+use Rattle.words.proofs.Truth.{decide, not_both, →and, and_no_left, and_no_right, →or_left, →or_right, or_false, is→, →is, isnt→, →isnt, →below, →not_below, provided_true, provided_false, →some, none→, lowest_is, lowest_passes}
 use Rattle.words.proofs.From.{from_here, from_next, from_end}
 use Rattle.bits.specs.Word.{marked, less}
 use Rattle.bits.proofs.Walks.{turned, unturned}
@@ -30,7 +30,7 @@ module _ (log : List ℕ) (x : ℕ) where
 
   -- 0 where there is none
   pub writer_from : ℕ → ℕ
-  writer_from j = if first_from j below steps log then tx log (first_from j) else 0
+  writer_from j = provided first_from j below steps log then tx log (first_from j) else 0
 
   pub next_from : (v : ℕ) → next_writer log x v ≡ writer_from (versions_from log v)
   unfolding next_writer next_commit writer_from first_from
@@ -38,11 +38,11 @@ module _ (log : List ℕ) (x : ℕ) where
 
   from_last : (j : ℕ) → steps log ≤ j → writer_from j ≡ 0
   unfolding writer_from first_from
-  from_last j h = if_false _ _ (→not_below (omega (arith, from_end (steps log) (commits_writer log x) j h)))
+  from_last j h = provided_false _ _ (→not_below (omega (arith, from_end (steps log) (commits_writer log x) j h)))
 
   from_commit : (j : ℕ) → j < steps log → commits_writer log x j ≡ true → writer_from j ≡ tx log j
   unfolding writer_from first_from
-  from_commit j h c = let e = from_here (steps log) (commits_writer log x) j h c in rw e (if_true _ _ (→below h))
+  from_commit j h c = let e = from_here (steps log) (commits_writer log x) j h c in rw e (provided_true _ _ (→below h))
 
   from_other : (j : ℕ) → commits_writer log x j ≡ false → writer_from j ≡ writer_from (suc j)
   unfolding writer_from first_from
@@ -109,20 +109,20 @@ module _ (log : List ℕ) where
 
         store : (x : ℕ) → x < objects → (writer log x t ≡ true) ⊎ (writer log x t ≡ false) → at after 0 x ≡ writer_from log x j
         store x l (inl w) =
-            put.entry 0 x (omega arith) l ∙ if_true _ _ (→and (table_of.mark t x t_in l ∙ w) (→is refl)) ∙ sym (from_commit log x j h (→and (→is k) w))
+            put.entry 0 x (omega arith) l ∙ provided_true _ _ (→and (table_of.mark t x t_in l ∙ w) (→is refl)) ∙ sym (from_commit log x j h (→and (→is k) w))
         store x l (inr w) =
             let m : marked (get_or writes t 0) x ≡ false = table_of.mark t x t_in l ∙ w in
-            put.entry 0 x (omega arith) l ∙ if_false _ _ (and_no_left _ m) ∙ if_false _ _ (and_no_left _ m) ∙ known.store x l ∙ sym (from_other log x j (and_no_right _ w))
+            put.entry 0 x (omega arith) l ∙ provided_false _ _ (and_no_left _ m) ∙ provided_false _ _ (and_no_left _ m) ∙ known.store x l ∙ sym (from_other log x j (and_no_right _ w))
 
         entry : (v x : ℕ) → v ≤ transactions → x < objects → (v ≡ 0 → ⊥) → writer log x v ≡ true → j ≤ commit_step log v → ((v is t) ≡ true) ⊎ ((v is t) ≡ false) → at after v x ≡ next_writer log x v
         entry v x a b z w l (inl q) =
             let e : v ≡ t = is→ q in
             let m : marked (get_or writes t 0) x ≡ true = table_of.mark t x t_in b ∙ rw e at w in
             let c : commit_step log t ≡ j = commit_step_at log well t j h (→and (→is k) (→is refl)) in
-            put.entry v x a b ∙ if_false _ _ (and_no_right _ (→isnt z)) ∙ if_true _ _ (→and m q) ∙ known.store x b
+            put.entry v x a b ∙ provided_false _ _ (and_no_right _ (→isnt z)) ∙ provided_true _ _ (→and m q) ∙ known.store x b
             ∙ sym (next_from log x v ∙ ap (writer_from log x) (versions_from_other log v z ∙ ap suc (ap (commit_step log) e ∙ c)))
         entry v x a b z w l (inr q) =
-            put.entry v x a b ∙ if_false _ _ (and_no_right _ (→isnt z)) ∙ if_false _ _ (and_no_right _ q)
+            put.entry v x a b ∙ provided_false _ _ (and_no_right _ (→isnt z)) ∙ provided_false _ _ (and_no_right _ q)
             ∙ known.entry v x a b z w (later v l (and_no_right _ (→isnt (λ e. isnt→ q (sym e)))))
 
   -- steps that commit nothing are passed over
@@ -147,7 +147,7 @@ module _ (log : List ℕ) where
 
   -- how much of the log is left: up to the commit of t
   pub left : ℕ → ℕ
-  left t = if t is 0 then 0 else suc (commit_step log t)
+  left t = provided t is 0 then 0 else suc (commit_step log t)
 
   pub left_less : Well transactions log → {j : ℕ} {t u : ℕ} → j ≤ steps log → (c : LastCommit log j) → t ≡ tx log c.step → u ≡ committer log c.step → left u < left t
   unfolding left
@@ -159,15 +159,15 @@ module _ (log : List ℕ) where
           commits_here : (s : ℕ) → kind log s ≡ 4 → commits log (tx log s) s ≡ true
           commits_here s k = unfold commits in (→and (→is k) (→is refl))
 
-      here : (if t is 0 then 0 else suc (commit_step log t)) ≡ suc (commit_step log t)
-      here = if_false _ _ (→isnt (λ (z : t ≡ 0). omega (arith, z, e, (well.range c.step (omega (arith, c.below))).0)))
+      here : (provided t is 0 then 0 else suc (commit_step log t)) ≡ suc (commit_step log t)
+      here = provided_false _ _ (→isnt (λ (z : t ≡ 0). omega (arith, z, e, (well.range c.step (omega (arith, c.below))).0)))
 
-      go : ((u is 0) ≡ true) ⊎ ((u is 0) ≡ false) → (if u is 0 then 0 else suc (commit_step log u)) < suc c.step
-      go (inl q) = rw (if_true 0 (suc (commit_step log u)) q) (omega arith)
+      go : ((u is 0) ≡ true) ⊎ ((u is 0) ≡ false) → (provided u is 0 then 0 else suc (commit_step log u)) < suc c.step
+      go (inl q) = rw (provided_true 0 (suc (commit_step log u)) q) (omega arith)
       go (inr q) =
           let b = last_commit log c.step (λ z. isnt→ q (f ∙ z)) in
           let w : commit_step log u ≡ b.step = ap (commit_step log) (f ∙ sym b.by) ∙ commit_is b.step (omega (arith, b.below, c.below)) b.commits in
-          rw (if_false 0 (suc (commit_step log u)) q) (omega (arith, w, b.below))
+          rw (provided_false 0 (suc (commit_step log u)) q) (omega (arith, w, b.below))
 
   -- all steps
   pub coming_all : {table : List ℕ} → Coming log 0 table → NextWriters log table
@@ -205,7 +205,7 @@ next_write {log} well known i h k = by_table known (well.range i h).1 (well.obje
 
 -- THE WALK over the marks of one commit: what the marks that are left will still do to the table is what all of them do to the first one
 unfoldable pub put_at : ℕ → ℕ → List ℕ → ℕ → ℕ → ℕ
-put_at marks t table v x = if marked marks x and v is 0 then t else if marked marks x and v is t then at table 0 x else at table v x
+put_at marks t table v x = provided marked marks x and v is 0 then t else provided marked marks x and v is t then at table 0 x else at table v x
 
 pub record Putting (first : List ℕ) (marks t left : ℕ) (table : List ℕ) : Type 0 where
   pub size : length table ≡ length first
@@ -219,7 +219,7 @@ unfolding put_at
 put_all {marks} {left} p n =
     record {
       size = p.size;
-      entry = λ v x h k. let m : marked left x ≡ false = none→ (marked left) n x k in sym (if_false _ _ (and_no_left _ m) ∙ if_false _ _ (and_no_left _ m)) ∙ p.entry v x h k;
+      entry = λ v x h k. let m : marked left x ≡ false = none→ (marked left) n x k in sym (provided_false _ _ (and_no_left _ m) ∙ provided_false _ _ (and_no_left _ m)) ∙ p.entry v x h k;
     }
 
 -- the mark of y has its turn
@@ -252,22 +252,22 @@ module _ {first : List ℕ} {marks t left : ℕ} {table : List ℕ} (p : Putting
       here v h (inl q) b =
           let e : v ≡ 0 = is→ q in
           let f : v * objects + y ≡ y = omega arith in
-          ap (λ (k : ℕ). get_or put_both k 0) f ∙ get_or-set_same put_row y t 0 (omega (arith, length-set table (t * objects + y) (get_or table y 0), p.size)) ∙ sym (if_true _ _ (→and m q))
+          ap (λ (k : ℕ). get_or put_both k 0) f ∙ get_or-set_same put_row y t 0 (omega (arith, length-set table (t * objects + y) (get_or table y 0), p.size)) ∙ sym (provided_true _ _ (→and m q))
       here v h (inr q) (inl b) =
           let e : v ≡ t = is→ b in
           let f : v * objects + y ≡ t * objects + y = ap (λ (k : ℕ). k * objects + y) e in
           ap (λ (k : ℕ). get_or put_both k 0) f ∙ get_or-set_other put_row y (t * objects + y) t 0 (λ (z : t * objects + y ≡ y). omega (arith, t_in.0))
           ∙ get_or-set_same table (t * objects + y) (get_or table y 0) 0 (omega (arith, p.size, t_in.1)) ∙ sym (ap (λ (k : ℕ). get_or table k 0) (zero_row y))
-          ∙ sym (if_false _ _ (and_no_right _ q) ∙ if_true _ _ (→and m b))
+          ∙ sym (provided_false _ _ (and_no_right _ q) ∙ provided_true _ _ (→and m b))
       here v h (inr q) (inr b) =
           let a : v ≡ 0 → ⊥ = isnt→ q in
           let c : v ≡ t → ⊥ = isnt→ b in
           same_entry v y y_in (λ (z : v * objects + y ≡ y). a (omega arith)) (λ (z : v * objects + y ≡ t * objects + y). c (omega arith))
-          ∙ sym (if_false _ _ (and_no_right _ q) ∙ if_false _ _ (and_no_right _ b))
+          ∙ sym (provided_false _ _ (and_no_right _ q) ∙ provided_false _ _ (and_no_right _ b))
 
       step : (v x : ℕ) → v ≤ transactions → x < objects → ((x is y) ≡ true) ⊎ ((x is y) ≡ false) → put_at (less left y) t put_both v x ≡ put_at left t table v x
       step v x h k (inl q) =
           let e : x ≡ y = is→ q in
           let g : marked (less left y) y ≡ false = turned left y in
-          rw e (if_false _ _ (and_no_left _ g) ∙ if_false _ _ (and_no_left _ g) ∙ here v h (decide (v is 0)) (decide (v is t)))
+          rw e (provided_false _ _ (and_no_left _ g) ∙ provided_false _ _ (and_no_left _ g) ∙ here v h (decide (v is 0)) (decide (v is t)))
       step v x h k (inr q) = rw (unturned left y x q, other v x k (isnt→ q), other 0 x k (isnt→ q)) refl

@@ -6,12 +6,12 @@ use mathlib.Core.List.{List}
 use Prim.Native.Nat.{ℕ, suc, ◌+◌, ◌≤◌}
 use native.Mathlib.Omega.{arith}
 use lib.ListN.{length, get_or, set, replicate, length-set, length-replicate}
-use Rattle.words.specs.Tests.{◌is◌, ◌below◌, ◌upto◌, ◌and◌, ◌or◌, if◌then◌else◌, some, lowest}
+use Rattle.words.specs.Tests.{◌is◌, ◌upto◌, ◌and◌, ◌or◌, some, lowest}
 use Rattle.words.proofs.Truth.{same_test, and→, →and, and_no_left, and_no_right, →none, or→, →or_left, →or_right, is→, →is, →isnt, →upto, to_false, not_both, →some, some→, some_skip, some_next}
 use Rattle.graph.specs.Matrix.{takes_part}
 use Rattle.graph.proofs.TwoWords.{no_member}
 use Rattle.verdict.specs.Limits.{transactions}
-use Rattle.verdict.specs.Log.{steps, kind, tx, obj, begins, commits, begun, ended, writes, writer, committed}
+use Rattle.verdict.specs.Log.{steps, kind, tx, begins, commits, begun, ended, writes, writer, committed}
 use Rattle.verdict.specs.Refusal.{tried, step_refusal}
 use Rattle.verdict.specs.Clean.{own_fault}
 use Rattle.verdict.specs.Inner.Marks.{does, Committed}

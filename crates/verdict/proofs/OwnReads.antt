@@ -5,8 +5,8 @@ use mathlib.Core.Logic.{◌⊎◌, inl, inr}
 use mathlib.Core.List.{List}
 use Prim.Native.Nat.{ℕ, ◌<◌}
 use native.Mathlib.Omega.{arith}
-use Rattle.words.specs.Tests.{◌is◌, ◌upto◌, ◌or◌, fails, if◌then◌else◌, some, lowest}
-use Rattle.words.proofs.Truth.{decide, not_both, to_false, and→, →and, and_no_left, and_no_right, and_true, and_true_right, →or_left, or_false, →fails, →not_fails, →is, →isnt, not_upto→, if_true, if_false, none→, →none, lowest_is, lowest_none, lowest_passes, below_lowest}
+use Rattle.words.specs.Tests.{◌is◌, ◌upto◌, ◌or◌, fails, provided◌then◌else◌, some, lowest}
+use Rattle.words.proofs.Truth.{decide, not_both, to_false, and→, →and, and_no_left, and_no_right, and_true, and_true_right, →or_left, or_false, →fails, →not_fails, →is, →isnt, not_upto→, provided_true, provided_false, none→, →none, lowest_is, lowest_none, lowest_passes, below_lowest}
 use Rattle.words.proofs.From.{lowest_same}
 use Rattle.words.proofs.Either.{lowest_either}
 use Rattle.verdict.specs.Log.{steps, kind, tx, src, reads, committed}
@@ -56,10 +56,10 @@ module _ (log : List ℕ) (i : ℕ) where
       go : (judged_other log i ≡ true) ⊎ (judged_other log i ≡ false) → (after_own_write log i ≡ true) ⊎ (after_own_write log i ≡ false) → wrong_read log i ≡ (own_fault log i or stale_read log i)
       go (inr n) w = and_no_left _ n ∙ sym (or_false (and_no_left _ n) ∙ and_no_left _ n)
       go (inl j) (inr n) =
-          and_true j ∙ ap (λ (t : ℕ). fails (src log i is t)) (ap writer_number (if_false _ _ n))
+          and_true j ∙ ap (λ (t : ℕ). fails (src log i is t)) (ap writer_number (provided_false _ _ n))
           ∙ sym (or_false (and_no_right _ n) ∙ and_true j)
       go (inl j) (inl w) =
-          and_true j ∙ ap (λ (t : ℕ). fails (src log i is t)) (ap writer_number (if_true _ _ w))
+          and_true j ∙ ap (λ (t : ℕ). fails (src log i is t)) (ap writer_number (provided_true _ _ w))
           ∙ another j ∙ sym (→or_left _ (→and j w))
 
 -- without a read that misses its own write there is no such fault
@@ -68,22 +68,22 @@ none_missed log n = lowest_none (own_fault log) (→none (own_fault log) (λ i h
 
 -- THE LOWEST WRONG READ, by the first own fault and the first stale read
 module _ (log : List ℕ) {own stale : ℕ} (first_own : own ≡ lowest (steps log) (own_fault log)) (first_stale : stale ≡ lowest (steps log) (stale_read log)) where
-  pub first_wrong : (if own upto stale then own else stale) ≡ lowest (steps log) (wrong_read log)
+  pub first_wrong : (provided own upto stale then own else stale) ≡ lowest (steps log) (wrong_read log)
   first_wrong =
       rw (first_own, first_stale) (sym (lowest_same (steps log) (wrong_read log) (λ i. own_fault log i or stale_read log i) (λ i _. wrong_either log i) ∙ lowest_either (steps log) (own_fault log) (stale_read log)))
 
   -- whether it comes after its own write
-  pub after_own : (k : ℕ) → k ≡ (if own upto stale then own else stale) → k < steps log → (own upto stale) ≡ after_own_write log k
+  pub after_own : (k : ℕ) → k ≡ (provided own upto stale then own else stale) → k < steps log → (own upto stale) ≡ after_own_write log k
   unfolding own_fault stale_read
   after_own k e h = go (decide (own upto stale))
     where
       go : ((own upto stale) ≡ true) ⊎ ((own upto stale) ≡ false) → (own upto stale) ≡ after_own_write log k
       go (inl q) =
-          let f : k ≡ lowest (steps log) (own_fault log) = e ∙ if_true _ _ q ∙ first_own in
+          let f : k ≡ lowest (steps log) (own_fault log) = e ∙ provided_true _ _ q ∙ first_own in
           let o : own_fault log k ≡ true = rw f (lowest_is {n = steps log} (own_fault log) (lowest_passes (own_fault log) (omega arith))).1 in
           q ∙ sym (and→ {a = judged_other log k} o).1
       go (inr q) =
-          let d : k ≡ stale = e ∙ if_false _ _ q in
+          let d : k ≡ stale = e ∙ provided_false _ _ q in
           let f : k ≡ lowest (steps log) (stale_read log) = d ∙ first_stale in
           let s : stale_read log k ≡ true = rw f (lowest_is {n = steps log} (stale_read log) (lowest_passes (stale_read log) (omega arith))).1 in
           q ∙ sym (to_false _ (λ w. not_both (→and (and→ {a = judged_other log k} s).0 w) (below_lowest (steps log) (own_fault log) k (omega (arith, not_upto→ q)))))

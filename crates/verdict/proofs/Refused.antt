@@ -6,7 +6,7 @@ use Prim.Native.Nat.{ℕ, zero, suc, ◌+◌, ◌<◌}
 use native.Mathlib.Omega.{arith}
 use native.Mathlib.Nat.{not-suc-le-zero}
 use native.Mathlib.Numerals.{add-one}
-use Rattle.words.specs.Tests.{◌is◌, ◌below◌, fails, if◌then◌else◌}
+use Rattle.words.specs.Tests.{◌is◌, ◌below◌, fails, provided◌then◌else◌}
 use Rattle.words.proofs.Truth.{decide, →isnt, below→, not_below→}
 use Rattle.verdict.specs.declared.answers.Checked.{Checked}
 use Rattle.verdict.specs.declared.answers.Checked.TheVariants.{Passed, Refused}
@@ -114,12 +114,12 @@ tried_same (suc n) f g h = rw (tried_same n f g (λ i k. h i (omega arith)), h n
 
 -- THE CHOICE OF A CONSTRUCTOR
 module _ {A : Type 0} where
-  pub chose_first : (b : Bool) (x y : A) {z : A} → (if b then x else y) ≡ z → (y ≡ z → ⊥) → b ≡ true
-  unfolding if◌then◌else◌
+  pub chose_first : (b : Bool) (x y : A) {z : A} → (provided b then x else y) ≡ z → (y ≡ z → ⊥) → b ≡ true
+  unfolding provided◌then◌else◌
   chose_first true x y e n = refl
   chose_first false x y e n = absurd (n e)
 
-  pub chose_second : (b : Bool) (x y : A) {z : A} → (if b then x else y) ≡ z → (x ≡ z → ⊥) → b ≡ false
-  unfolding if◌then◌else◌
+  pub chose_second : (b : Bool) (x y : A) {z : A} → (provided b then x else y) ≡ z → (x ≡ z → ⊥) → b ≡ false
+  unfolding provided◌then◌else◌
   chose_second true x y e n = absurd (n e)
   chose_second false x y e n = refl

@@ -4,11 +4,11 @@ use mathlib.Core.Bool.{true, false, false≢true}
 use mathlib.Core.Logic.{◌⊎◌, inl, inr, ⊎_elim}
 use mathlib.Core.List.{List, [], ◌∷◌}
 use Prim.Native.Nat.{ℕ}
-use Rattle.words.specs.Tests.{◌is◌, if◌then◌else◌}
+use Rattle.words.specs.Tests.{◌is◌, provided◌then◌else◌}
 use Rattle.words.specs.Lists.{member, distinct, before}
 use Rattle.verdict.specs.Log.{writer}
 use Rattle.verdict.specs.Replay.{finds}
-use Rattle.words.proofs.Truth.{decide, not_both, is→, isnt→, if_true, if_false}
+use Rattle.words.proofs.Truth.{decide, not_both, is→, isnt→, provided_true, provided_false}
 use Rattle.words.proofs.Places.{member→, before→, before_head, before_tail, before_left, distinct→, none_before_head}
 
 -- what r finds of x: the last writer of x before r, or v where there is none
@@ -44,10 +44,10 @@ pub finds_cases : (log : List ℕ) (x r v : ℕ) (w : List ℕ) → distinct w �
 unfolding member finds
 finds_cases log x r v [] d m = absurd (false≢true m)
 finds_cases log x r v (t ∷ w) d m =
-    go (decide (t is r)) (decide (writer log x t)) (λ k. finds_cases log x r (if writer log x t then t else v) w (distinct→ t w d).1 k)
+    go (decide (t is r)) (decide (writer log x t)) (λ k. finds_cases log x r (provided writer log x t then t else v) w (distinct→ t w d).1 k)
   where
     v' : ℕ
-    v' = if writer log x t then t else v
+    v' = provided writer log x t then t else v
 
     Result : ℕ → Type 0
     Result s = Last log x r s (t ∷ w) ⊎ ((s ≡ v) × None log x r (t ∷ w))
@@ -55,15 +55,15 @@ finds_cases log x r v (t ∷ w) d m =
     found : (writer log x t ≡ true) ⊎ (writer log x t ≡ false) → member r w ≡ true
         → Last log x r (finds log x r v' w) w ⊎ ((finds log x r v' w ≡ v') × None log x r w) → Result (finds log x r v' w)
     found c k (inl l) = inl (last_tail log x r t w _ l)
-    found (inl c) k (inr n) = inl (rw (n.0 ∙ if_true t v c) (last_head log x r t w c k n.1))
-    found (inr c) k (inr n) = inr (n.0 ∙ if_false t v c, none_tail log x r t w c n.1)
+    found (inl c) k (inr n) = inl (rw (n.0 ∙ provided_true t v c) (last_head log x r t w c k n.1))
+    found (inr c) k (inr n) = inr (n.0 ∙ provided_false t v c, none_tail log x r t w c n.1)
 
     go : ((t is r) ≡ true) ⊎ ((t is r) ≡ false) → (writer log x t ≡ true) ⊎ (writer log x t ≡ false)
         → (member r w ≡ true → Last log x r (finds log x r v' w) w ⊎ ((finds log x r v' w ≡ v') × None log x r w))
-        → Result (if t is r then v else finds log x r v' w)
+        → Result (provided t is r then v else finds log x r v' w)
     go (inl e) c rec =
-        rw (if_true v (finds log x r v' w) e)
+        rw (provided_true v (finds log x r v' w) e)
         (inr (refl, λ u q b. none_before_head u t w d (subst (λ (z : ℕ). before u z (t ∷ w) ≡ true) (sym (is→ e)) b)))
     go (inr e) c rec =
         let k : member r w ≡ true = ⊎_elim (λ (z : r ≡ t). absurd (isnt→ e (sym z))) (λ z. z) (member→ r t w m) in
-        rw (if_false v (finds log x r v' w) e) (found c k (rec k))
+        rw (provided_false v (finds log x r v' w) e) (found c k (rec k))

@@ -5,7 +5,7 @@ use mathlib.Core.Option.{Option, none, some as just}
 use Prim.Native.Nat.{ℕ}
 use lib.ListN.{get_or, get_or-map}
 use native.Mathlib.Omega.{arith}
-use Rattle.words.specs.Tests.{◌is◌, ◌below◌, ◌upto◌, ◌and◌, ◌or◌, ◌implies◌, fails, if◌then◌else◌, some, every, count, lowest, highest}
+use Rattle.words.specs.Tests.{◌is◌, ◌below◌, ◌upto◌, ◌and◌, ◌or◌, ◌implies◌, fails, provided◌then◌else◌, some, every, count, lowest, highest}
 use Rattle.words.specs.Lists.{member, all, distinct, before, zeros, entries}
 use Rattle.words.specs.First.{dictionary, shorter, later}
 use Rattle.words.specs.Listed.{Listed}
@@ -193,7 +193,7 @@ table =
 -- the one computed equation
 pub table_right : map outcome table ≡ map (λ s. s.expected) table
 unfolding b r w c a sample ordered ring no_order fault 1' 12' 21' 123' 132' 213' 312' table outcome outcome_by next_by next_after
-    ◌is◌ ◌below◌ ◌upto◌ ◌and◌ ◌or◌ ◌implies◌ fails if◌then◌else◌ some every count lowest highest
+    ◌is◌ ◌below◌ ◌upto◌ ◌and◌ ◌or◌ ◌implies◌ fails provided◌then◌else◌ some every count lowest highest
     member all distinct before zeros entries handed dictionary shorter later once_each keeps is_order leads is_cycle
     steps kind tx obj src begins reads writes commits aborts committed aborted writer write_one_object begin_step commit_step commits_writer committed_count
     ◌at◌when◌ ◌else_try◌ tried object_allowed source_allowed begun ended wrote range_refusal life_refusal source_refusal step_refusal open_refusal log_refusal

@@ -15,7 +15,7 @@ use Rattle.verdict.specs.Reason.{without_reasons}
 use Rattle.verdict.specs.Outcome.{order, none, said, members}
 use Rattle.verdict.specs.Witness.{in_threes, witness}
 use Rattle.verdict.specs.Judgement.{Holds}
-use Rattle.words.proofs.Truth.{decide, →fails, below→, →below, →not_below, not_below→, if_true}
+use Rattle.words.proofs.Truth.{decide, →fails, below→, →below, →not_below, not_below→, provided_true}
 use Rattle.bits.specs.Word.{marked}
 use Rattle.bits.proofs.Marks.{mark_below}
 use Rattle.verdict.specs.Limits.{transactions, witness_buffer, most_searched}
@@ -43,7 +43,7 @@ module _ (log : List ℕ) {ones : List ℕ} {n : ℕ} (list : CommittedList log 
 all_counted : (n : ℕ) (p : ℕ → Bool) → ((i : ℕ) → i < n → p i ≡ true) → count n p ≡ n
 unfolding count
 all_counted zero p f = refl
-all_counted (suc n) p f = if_true _ _ (f n (omega arith)) ∙ ap suc (all_counted n p (λ (i : ℕ) (h : i < n). f i (omega arith)))
+all_counted (suc n) p f = provided_true _ _ (f n (omega arith)) ∙ ap suc (all_counted n p (λ (i : ℕ) (h : i < n). f i (omega arith)))
 
 -- at first nothing is placed, and each of the n places of the list is marked
 pub nothing_placed : (log ones : List ℕ) {n : ℕ} → n ≤ most_searched → Placed log ones n (record { free = (1 * 2 ^ n) % 2 ^ 64 - 1; at = 0 }) [] (replicate 64 0)

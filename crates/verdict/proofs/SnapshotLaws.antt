@@ -7,8 +7,8 @@ use Prim.Native.Nat.{ℕ, suc, ◌-◌, ◌≤◌, ◌<◌}
 use native.Mathlib.Omega.{arith}
 use native.Mathlib.Numerals.{add-one}
 use lib.ListN.{get_or}
-use Rattle.words.specs.Tests.{◌below◌, if◌then◌else◌, some, lowest, highest}
-use Rattle.words.proofs.Truth.{decide, not_both, to_false, and→, →and, and_no_left, and_no_right, →or_left, →or_right, or_false, →is, is→, →isnt, →below, →not_below, if_true, if_false, some→, →some, none→, →none, none_next, lowest_is, lowest_none, lowest_at, lowest_passes, lowest_bound, below_lowest, highest_yes, highest_no, highest_is, highest_none}
+use Rattle.words.specs.Tests.{◌below◌, provided◌then◌else◌, some, lowest, highest}
+use Rattle.words.proofs.Truth.{decide, not_both, to_false, and→, →and, and_no_left, and_no_right, →or_left, →or_right, or_false, →is, is→, →isnt, →below, →not_below, provided_true, provided_false, some→, →some, none→, →none, none_next, lowest_is, lowest_none, lowest_at, lowest_passes, lowest_bound, below_lowest, highest_yes, highest_no, highest_is, highest_none}
 use Rattle.verdict.specs.Limits.{transactions, objects}
 use Rattle.verdict.specs.Log.{steps, kind, tx, obj, begins, writes, committed, commits, writer, begin_step, commit_step, commits_writer}
 use Rattle.verdict.specs.Clean.{judged_other, after_own_write}
@@ -27,21 +27,21 @@ use Rattle.verdict.proofs.Versions.{share, shared}
 -- THE LAST COMMITTED WRITER
 module _ (log : List ℕ) (x : ℕ) where
   -- its number alone, in 01's words: the transaction of the last such commit, 0 if there is none
-  pub last_number : (b : ℕ) → writer_number (last_committed log b x) ≡ (if last_commit log b x below b then tx log (last_commit log b x) else 0)
-  unfolding last_committed writer_number if◌then◌else◌
+  pub last_number : (b : ℕ) → writer_number (last_committed log b x) ≡ (provided last_commit log b x below b then tx log (last_commit log b x) else 0)
+  unfolding last_committed writer_number provided◌then◌else◌
   last_number b = go (last_commit log b x below b)
     where
-      go : (v : Bool) → writer_number (if v then Committed (tx log (last_commit log b x)) (last_commit log b x) else Store) ≡ (if v then tx log (last_commit log b x) else 0)
+      go : (v : Bool) → writer_number (provided v then Committed (tx log (last_commit log b x)) (last_commit log b x) else Store) ≡ (provided v then tx log (last_commit log b x) else 0)
       go true = refl
       go false = refl
 
   pub last_none : last_committed log 0 x ≡ Store
   unfolding last_committed last_commit highest
-  last_none = if_false _ _ (→not_below (omega arith))
+  last_none = provided_false _ _ (→not_below (omega arith))
 
   pub last_here : (b : ℕ) → commits_writer log x b ≡ true → last_committed log (suc b) x ≡ Committed (tx log b) b
   unfolding last_committed last_commit
-  last_here b h = rw (highest_yes b (commits_writer log x) h) (if_true _ _ (→below (omega arith)))
+  last_here b h = rw (highest_yes b (commits_writer log x) h) (provided_true _ _ (→below (omega arith)))
 
   pub last_before : (b : ℕ) → commits_writer log x b ≡ false → last_committed log (suc b) x ≡ last_committed log b x
   unfolding last_committed last_commit
@@ -50,10 +50,10 @@ module _ (log : List ℕ) (x : ℕ) where
       go : (some b (commits_writer log x) ≡ true) ⊎ (some b (commits_writer log x) ≡ false) → last_committed log (suc b) x ≡ last_committed log b x
       go (inl k) =
           let l : highest b (commits_writer log x) < b = (highest_is b (commits_writer log x) k).0 in
-          rw (highest_no b (commits_writer log x) h k) (if_true _ _ (→below (omega arith)) ∙ sym (if_true _ _ (→below l)))
+          rw (highest_no b (commits_writer log x) h k) (provided_true _ _ (→below (omega arith)) ∙ sym (provided_true _ _ (→below l)))
       go (inr k) =
-          if_false _ _ (→not_below (omega (arith, highest_none (suc b) (commits_writer log x) (rw (add-one b) at (none_next b (commits_writer log x) k h)))))
-          ∙ sym (if_false _ _ (→not_below (omega (arith, highest_none b (commits_writer log x) k))))
+          provided_false _ _ (→not_below (omega (arith, highest_none (suc b) (commits_writer log x) (rw (add-one b) at (none_next b (commits_writer log x) k h)))))
+          ∙ sym (provided_false _ _ (→not_below (omega (arith, highest_none b (commits_writer log x) k))))
 
   -- the same, one step back from j
   module _ (j : ℕ) (h : 0 < j) where
@@ -72,12 +72,12 @@ module _ (log : List ℕ) (i : ℕ) where
   -- what it should have found: the reader itself after its own write
   pub wanted_own : {s : Step} → StepAt log i s → after_own_write log i ≡ true → Reader s.tx ≡ wanted log i
   unfolding wanted
-  wanted_own step w = ap Reader step.tx_is ∙ sym (if_true _ _ w)
+  wanted_own step w = ap Reader step.tx_is ∙ sym (provided_true _ _ w)
 
   -- .. and else who committed last before b, where its transaction begins
   pub wanted_there : {s : Step} {b : ℕ} {r : Writer} → StepAt log i s → after_own_write log i ≡ false → b ≡ lowest (steps log) (does log 1 s.tx) → r ≡ last_committed log b s.obj → r ≡ wanted log i
   unfolding wanted snapshot_step begin_step begins does
-  wanted_there step w e f = f ∙ rw (e, step.tx_is, step.obj_is) refl ∙ sym (if_false _ _ w)
+  wanted_there step w e f = f ∙ rw (e, step.tx_is, step.obj_is) refl ∙ sym (provided_false _ _ w)
 
 -- A CLASH
 module _ (log : List ℕ) (j p : ℕ) where
@@ -183,7 +183,7 @@ module _ (log : List ℕ) where
         let w : wrong_read log k ≡ true = rw read (lowest_is {n = steps log} (wrong_read log) (lowest_passes (wrong_read log) (omega arith))).1 in
         let s : wrong_step transactions log k ≡ true = →or_left _ w in
         let e : lowest (steps log) (wrong_step transactions log) ≡ k = lowest_at (wrong_step transactions log) k n s (λ (i : ℕ) (l : i < k). none_yet i l (omega arith)) in
-        if_true _ _ (→some _ k n s) ∙ ap (snapshot_fault transactions log) e ∙ if_true _ _ w ∙ ap (Read k) (sym v)
+        provided_true _ _ (→some _ k n s) ∙ ap (snapshot_fault transactions log) e ∙ provided_true _ _ w ∙ ap (Read k) (sym v)
 
     pub write_first : j < k → snapshot_verdict transactions log ≡ Write j p
     unfolding snapshot_verdict wrong_step snapshot_fault
@@ -195,13 +195,13 @@ module _ (log : List ℕ) where
         let c : kind log j ≡ 4 = wrong_commit_kind j w in
         let g : wrong_read log j ≡ false = not_wrong log j (other_kind log j (λ (q : kind log j ≡ 2). omega arith)) in
         let e : lowest (steps log) (wrong_step transactions log) ≡ j = lowest_at (wrong_step transactions log) j n s (λ (i : ℕ) (l : i < j). none_yet i (omega arith) l) in
-        if_true _ _ (→some _ j n s) ∙ ap (snapshot_fault transactions log) e ∙ if_false _ _ g ∙ ap (Write j) (sym (found.other h))
+        provided_true _ _ (→some _ j n s) ∙ ap (snapshot_fault transactions log) e ∙ provided_false _ _ g ∙ ap (Write j) (sym (found.other h))
 
     pub all_right : k ≤ j → steps log ≤ k → snapshot_verdict transactions log ≡ Yes
     unfolding snapshot_verdict
-    all_right h n = if_false _ _ (→none _ (λ (i : ℕ) (l : i < steps log). none_yet i (omega arith) (omega arith)))
+    all_right h n = provided_false _ _ (→none _ (λ (i : ℕ) (l : i < steps log). none_yet i (omega arith) (omega arith)))
 
 -- a log without steps has nothing wrong
 pub none_wrong : (log : List ℕ) → steps log ≡ 0 → snapshot_verdict transactions log ≡ Yes
 unfolding snapshot_verdict some
-none_wrong log e = if_false _ _ (ap (λ (n : ℕ). some n (wrong_step transactions log)) e)
+none_wrong log e = provided_false _ _ (ap (λ (n : ℕ). some n (wrong_step transactions log)) e)

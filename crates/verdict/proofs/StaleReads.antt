@@ -5,8 +5,8 @@ use mathlib.Core.Logic.{◌⊎◌, inl, inr}
 use mathlib.Core.List.{List}
 use Prim.Native.Nat.{ℕ, suc, ◌≤◌, ◌<◌}
 use native.Mathlib.Omega.{arith}
-use Rattle.words.specs.Tests.{◌is◌, ◌below◌, ◌upto◌, ◌or◌, some, highest}
-use Rattle.words.proofs.Truth.{decide, not_both, to_false, and→, →and, and_no_left, and_no_right, →fails, →not_fails, is→, →is, →isnt, upto→, →upto, not_upto→, →below, below→, not_below→, →not_below, if_true, if_false, →some, →none, lowest_is, lowest_none, lowest_passes, lowest_bound, lowest_some, below_lowest, highest_is, highest_none, highest_at}
+use Rattle.words.specs.Tests.{◌below◌, ◌upto◌, some, highest}
+use Rattle.words.proofs.Truth.{decide, not_both, to_false, and→, →and, and_no_left, and_no_right, →fails, →not_fails, is→, →is, →isnt, upto→, →upto, not_upto→, →below, below→, not_below→, →not_below, provided_true, provided_false, →some, →none, lowest_is, lowest_none, lowest_passes, lowest_bound, lowest_some, below_lowest, highest_is, highest_none, highest_at}
 use Rattle.verdict.specs.Log.{steps, tx, obj, src, commits, committed, writer, commit_step, commits_writer}
 use Rattle.verdict.specs.Clean.{judged_other}
 use Rattle.verdict.specs.Version.{versions_from, next_commit}
@@ -60,18 +60,18 @@ module _ {most : ℕ} (log : List ℕ) (well : Well most log) (x : ℕ) where
         bound = unfold next_commit candidate in (lowest_bound {n = steps log} (candidate log x v))
 
         go : ((next_commit log x v below steps log) ≡ true) ⊎ ((next_commit log x v below steps log) ≡ false) → commit_step log (next_writer log x v) ≡ next_commit log x v
-        go (inl k) = ap (commit_step log) (if_true _ _ k) ∙ commit_here (next_commit log x v) (below→ k) (next_candidate (below→ k)).1
-        go (inr k) = ap (commit_step log) (if_false _ _ k) ∙ none_zero ∙ omega (arith, bound, not_below→ k)
+        go (inl k) = ap (commit_step log) (provided_true _ _ k) ∙ commit_here (next_commit log x v) (below→ k) (next_candidate (below→ k)).1
+        go (inr k) = ap (commit_step log) (provided_false _ _ k) ∙ none_zero ∙ omega (arith, bound, not_below→ k)
 
   -- who committed last before b
   module _ (b : ℕ) (within : b ≤ steps log) where
     last_found : some b (commits_writer log x) ≡ true → writer_number (last_committed log b x) ≡ tx log (highest b (commits_writer log x))
     unfolding last_commit
-    last_found h = last_number log x b ∙ if_true _ _ (→below (highest_is b (commits_writer log x) h).0)
+    last_found h = last_number log x b ∙ provided_true _ _ (→below (highest_is b (commits_writer log x) h).0)
 
     nobody : some b (commits_writer log x) ≡ false → writer_number (last_committed log b x) ≡ 0
     unfolding last_commit
-    nobody h = let e : highest b (commits_writer log x) ≡ b = highest_none b (commits_writer log x) h in last_number log x b ∙ if_false _ _ (→not_below (omega arith))
+    nobody h = let e : highest b (commits_writer log x) ≡ b = highest_none b (commits_writer log x) h in last_number log x b ∙ provided_false _ _ (→not_below (omega arith))
 
     -- where the next version after s's is committed before b, s is not the last
     overtaken : (s : ℕ) → next_commit log x s < b → s ≡ writer_number (last_committed log b x) → ⊥

@@ -6,7 +6,7 @@ use mathlib.Core.List.{List}
 use Prim.Native.Nat.{ℕ, suc, ◌≤◌, ◌<◌}
 use native.Mathlib.Omega.{arith}
 use Rattle.words.specs.Tests.{◌is◌, ◌below◌, ◌and◌, ◌or◌, some}
-use Rattle.words.proofs.Truth.{decide, same_test, and→, →and, and_true, and_no_left, and_no_right, or→, →or_left, →or_right, or_no, or_false, or_assoc, →fails, fails→, is→, isnt→, →is, →isnt, below→, if_true, if_false, some→, →some}
+use Rattle.words.proofs.Truth.{decide, same_test, and→, →and, and_true, and_no_left, and_no_right, or→, →or_left, →or_right, or_no, or_false, or_assoc, →fails, fails→, is→, isnt→, →is, →isnt, below→, provided_true, provided_false, some→, →some}
 use Rattle.verdict.specs.Limits.{transactions}
 use Rattle.verdict.specs.Log.{steps, kind, tx, obj, src, reads, committed}
 use Rattle.verdict.specs.Clean.{judged, is_clean}
@@ -22,15 +22,15 @@ module _ (log : List ℕ) (x v : ℕ) where
   -- what the writer of the next version says of the versions
   pub next_version→ : (u : ℕ) → next_version log x v u ≡ true → next_writer log x v ≡ u
   unfolding next_version next_writer
-  next_version→ u h = if_true _ _ (and→ h).0 ∙ is→ (and→ h).1
+  next_version→ u h = provided_true _ _ (and→ h).0 ∙ is→ (and→ h).1
 
   pub →next_version : (u : ℕ) → next_writer log x v ≡ u → (u ≡ 0 → ⊥) → next_version log x v u ≡ true
   unfolding next_version next_writer
   →next_version u e n = go (decide (next_commit log x v below steps log))
     where
       go : ((next_commit log x v below steps log) ≡ true) ⊎ ((next_commit log x v below steps log) ≡ false) → next_version log x v u ≡ true
-      go (inl k) = →and k (→is (sym (if_true _ _ k) ∙ e))
-      go (inr k) = absurd (n (sym e ∙ if_false _ _ k))
+      go (inl k) = →and k (→is (sym (provided_true _ _ k) ∙ e))
+      go (inr k) = absurd (n (sym e ∙ provided_false _ _ k))
 
 -- a transaction, or 0
 pub next_range : (log : List ℕ) → Well transactions log → (x v : ℕ) → next_writer log x v ≤ transactions
@@ -38,8 +38,8 @@ unfolding next_writer
 next_range log well x v = go (decide (next_commit log x v below steps log))
   where
     go : ((next_commit log x v below steps log) ≡ true) ⊎ ((next_commit log x v below steps log) ≡ false) → next_writer log x v ≤ transactions
-    go (inl k) = rw (if_true (tx log (next_commit log x v)) 0 k) (well.range (next_commit log x v) (below→ k)).1
-    go (inr k) = rw (if_false (tx log (next_commit log x v)) 0 k) (omega arith)
+    go (inl k) = rw (provided_true (tx log (next_commit log x v)) 0 k) (well.range (next_commit log x v) (below→ k)).1
+    go (inr k) = rw (provided_false (tx log (next_commit log x v)) 0 k) (omega arith)
 
 -- THE EDGES OF A STEP
 module _ (log : List ℕ) (i : ℕ) where

@@ -7,7 +7,7 @@ use native.Mathlib.Omega.{arith}
 use Rattle.words.specs.Tests.{◌upto◌, ◌and◌, some, lowest}
 use Rattle.verdict.specs.Log.{steps, tx, obj, writes, commits, committed, writer, commit_step, commits_writer, write_one_object}
 use Rattle.verdict.specs.Version.{versions_from, next_commit, next_version}
-use Rattle.words.proofs.Truth.{to_false, to_true, and→, →and, is→, →is, →isnt, upto→, →upto, below→, →below, if_true, if_false, some→, →some, lowest_is, lowest_none, lowest_at, lowest_le}
+use Rattle.words.proofs.Truth.{to_false, to_true, and→, →and, is→, →is, →isnt, upto→, →upto, below→, →below, provided_true, provided_false, some→, →some, lowest_is, lowest_none, lowest_at, lowest_le}
 use Rattle.verdict.proofs.WellFormed.{Well}
 
 -- t is a committed writer of x
@@ -17,11 +17,11 @@ pub record Wrote (log : List ℕ) (x t : ℕ) : Type 0 where
 
 pub versions_from_zero : (log : List ℕ) → versions_from log 0 ≡ 0
 unfolding versions_from
-versions_from_zero log = if_true 0 (suc (commit_step log 0)) (→is refl)
+versions_from_zero log = provided_true 0 (suc (commit_step log 0)) (→is refl)
 
 pub versions_from_other : (log : List ℕ) (v : ℕ) → (v ≡ 0 → ⊥) → versions_from log v ≡ suc (commit_step log v)
 unfolding versions_from
-versions_from_other log v n = if_false 0 (suc (commit_step log v)) (→isnt n)
+versions_from_other log v n = provided_false 0 (suc (commit_step log v)) (→isnt n)
 
 -- two writers of one object
 pub share : (log : List ℕ) (x a b : ℕ) → writer log x a ≡ true → writer log x b ≡ true → write_one_object log a b ≡ true

@@ -14,7 +14,7 @@ use Rattle.verdict.specs.declared.answers.Checked.{Checked}
 use Rattle.verdict.specs.declared.answers.Checked.TheVariants.{Passed, Refused}
 use Rattle.verdict.specs.Refusal.{◌at◌when◌, ◌else_try◌, tried, object_allowed, source_allowed, range_refusal, life_refusal, source_refusal, step_refusal, open_refusal, log_refusal}
 use Rattle.verdict.specs.Inner.Checking.{InRange}
-use Rattle.words.proofs.Truth.{decide, not_both, to_true, to_false, and→, →and, or→, →or_left, →or_right, →fails, not_fails→, is→, →is, →isnt, upto→, below→, not_below→, some→, →some, if_true, if_false}
+use Rattle.words.proofs.Truth.{decide, not_both, to_true, to_false, and→, →and, or→, →or_left, →or_right, →fails, not_fails→, is→, →is, →isnt, upto→, below→, not_below→, some→, →some, provided_true, provided_false}
 
 HasPassed : Checked → Type 0
 HasPassed Passed = Unit {0}
@@ -78,17 +78,17 @@ module _ (log : List ℕ) (i : ℕ) (within : InRange log i) where
       allowed = not_fails→ test_5
 
       go : ((kind log i is 2 or kind log i is 3) ≡ true) ⊎ ((kind log i is 2 or kind log i is 3) ≡ false) → obj log i < objects
-      go (inl t) = below→ (rw (if_true (obj log i below objects) (obj log i is 0) t) at allowed)
-      go (inr t) = omega (arith, is→ (rw (if_false (obj log i below objects) (obj log i is 0) t) at allowed))
+      go (inl t) = below→ (rw (provided_true (obj log i below objects) (obj log i is 0) t) at allowed)
+      go (inr t) = omega (arith, is→ (rw (provided_false (obj log i below objects) (obj log i is 0) t) at allowed))
 
   -- sources of reads are 0..128, and all others are 0
   pub source_within : kind log i ≡ 2 → src log i ≤ transactions
   unfolding source_allowed
-  source_within k = upto→ (rw (if_true (src log i upto transactions) (src log i is 0) (→is k)) at (not_fails→ test_6))
+  source_within k = upto→ (rw (provided_true (src log i upto transactions) (src log i is 0) (→is k)) at (not_fails→ test_6))
 
   pub source_none : (kind log i ≡ 2 → ⊥) → src log i ≡ 0
   unfolding source_allowed
-  source_none k = is→ (rw (if_false (src log i upto transactions) (src log i is 0) (→isnt k)) at (not_fails→ test_6))
+  source_none k = is→ (rw (provided_false (src log i upto transactions) (src log i is 0) (→isnt k)) at (not_fails→ test_6))
 
 -- .. which is so where no number turns the step away
 pub step_within : (log : List ℕ) (i : ℕ) → step_refusal log i ≡ Passed → InRange log i

@@ -1,6 +1,6 @@
 -- Clean reads. Only reads of committed transactions are judged, and a read from the reader itself is never a fault.
 use Rattle.std.specs.Prelude.{Bool, List, ℕ}
-use Rattle.words.specs.Tests.{◌is◌, ◌below◌, ◌and◌, ◌or◌, fails, if◌then◌else◌, some, lowest}
+use Rattle.words.specs.Tests.{◌is◌, ◌below◌, ◌and◌, ◌or◌, fails, provided◌then◌else◌, some, lowest}
 use Rattle.verdict.specs.Log.{steps, tx, obj, src, reads, writes, wrote, committed, aborted}
 use Rattle.verdict.specs.Answers.{Fault, Own, Aborted, Unfinal, Cleanness}
 
@@ -45,8 +45,8 @@ module _ (log : List ℕ) where
 
   -- the fault of a faulty step: own after its own write, else aborted if the source aborted, otherwise unfinal
   unfoldable pub fault_at : ℕ → Fault
-  fault_at k = if after_own_write k then Own k else if aborted log (src log k) then Aborted k else Unfinal k
+  fault_at k = provided after_own_write k then Own k else provided aborted log (src log k) then Aborted k else Unfinal k
 
   -- the verdict: yes, or the lowest faulty step
   unfoldable pub cleanness : Cleanness
-  cleanness = if is_clean then Cleanness.Yes else Cleanness.Unclean (fault_at (lowest (steps log) faulty_read))
+  cleanness = provided is_clean then Cleanness.Yes else Cleanness.Unclean (fault_at (lowest (steps log) faulty_read))

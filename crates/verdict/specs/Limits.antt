@@ -1,6 +1,6 @@
 -- The limits of transactions, objects, logs and lent buffers. Each is written here and, in the code, at the type that it limits.
 use Rattle.std.specs.Prelude.{ℕ}
-use Rattle.words.specs.Tests.{◌below◌, ◌upto◌, ◌and◌, if◌then◌else◌}
+use Rattle.words.specs.Tests.{◌below◌, ◌upto◌, ◌and◌, provided◌then◌else◌}
 use Rattle.verdict.specs.declared.limits.MadeTransaction.{MadeTransaction}
 use Rattle.verdict.specs.declared.limits.MadeObject.{MadeObject}
 use Rattle.verdict.specs.declared.limits.MadeLog.{MadeLog}
@@ -33,10 +33,10 @@ most_searched = 8
 
 -- what the code's constructors make of a number
 unfoldable pub make_transaction : ℕ → MadeTransaction
-make_transaction n = if 1 upto n and n upto transactions then MadeTransaction.Within (record { number = n }) else MadeTransaction.Beyond
+make_transaction n = provided 1 upto n and n upto transactions then MadeTransaction.Within (record { number = n }) else MadeTransaction.Beyond
 
 unfoldable pub make_object : ℕ → MadeObject
-make_object n = if n below objects then MadeObject.Within (record { number = n }) else MadeObject.Beyond
+make_object n = provided n below objects then MadeObject.Within (record { number = n }) else MadeObject.Beyond
 
 unfoldable pub make_log : ℕ → MadeLog
-make_log n = if n upto most_steps then MadeLog.Within (record { steps = n }) else MadeLog.Beyond
+make_log n = provided n upto most_steps then MadeLog.Within (record { steps = n }) else MadeLog.Beyond

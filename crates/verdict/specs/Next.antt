@@ -1,6 +1,6 @@
 -- "Next": the dictionary-first explaining order that comes later than the one handed in, or none.
 use Rattle.std.specs.Prelude.{List, [], ◌∷◌, ℕ}
-use Rattle.words.specs.Tests.{◌is◌, ◌and◌, fails, if◌then◌else◌}
+use Rattle.words.specs.Tests.{◌is◌, ◌and◌, fails, provided◌then◌else◌}
 use Rattle.words.specs.Lists.{all}
 use Rattle.words.specs.First.{dictionary, First, Never, later}
 use Rattle.verdict.specs.Refusal.{◌at◌when◌}
@@ -16,11 +16,11 @@ pub data Next (most : ℕ) (log v : List ℕ) : Outcome → Type 0 where
 -- the numbers handed in up to the first 0, and those from there on
 unfoldable pub up_to_zero : List ℕ → List ℕ
 up_to_zero [] = []
-up_to_zero (t ∷ l) = if t is 0 then [] else (t ∷ up_to_zero l)
+up_to_zero (t ∷ l) = provided t is 0 then [] else (t ∷ up_to_zero l)
 
 unfoldable pub from_zero : List ℕ → List ℕ
 from_zero [] = []
-from_zero (t ∷ l) = if t is 0 then (t ∷ l) else from_zero l
+from_zero (t ∷ l) = provided t is 0 then (t ∷ l) else from_zero l
 
 -- 14: the numbers handed in are no order of the list with zeros after it
 unfoldable pub list_refusal : ℕ → List ℕ → List ℕ → Checked

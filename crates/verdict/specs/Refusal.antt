@@ -1,6 +1,6 @@
 -- The numbers that turn a call away, each with its place: the first that applies, in the order of 01's table.
 use Rattle.std.specs.Prelude.{Bool, true, false, List, ℕ, zero, suc, ◌%◌, length}
-use Rattle.words.specs.Tests.{◌is◌, ◌below◌, ◌upto◌, ◌and◌, ◌or◌, fails, if◌then◌else◌}
+use Rattle.words.specs.Tests.{◌is◌, ◌below◌, ◌upto◌, ◌and◌, ◌or◌, fails, provided◌then◌else◌}
 use Rattle.verdict.specs.Limits.{transactions, objects, most_steps, witness_buffer, order_entries, work_bytes, most_searched}
 use Rattle.verdict.specs.Log.{steps, kind, tx, obj, src, begun, ended, wrote, committed_count}
 use Rattle.verdict.specs.Answers.{Checked, Passed, Refused}
@@ -24,10 +24,10 @@ tried (suc n) f = tried n f else_try f n
 
 -- object and source, as the kind of the step allows them
 unfoldable pub object_allowed : ℕ → ℕ → Bool
-object_allowed k x = if k is 2 or k is 3 then x below objects else x is 0
+object_allowed k x = provided k is 2 or k is 3 then x below objects else x is 0
 
 unfoldable pub source_allowed : ℕ → ℕ → Bool
-source_allowed k s = if k is 2 then s upto transactions else s is 0
+source_allowed k s = provided k is 2 then s upto transactions else s is 0
 
 -- 3 to 6: the numbers of a step at this place, of kind k, with transaction t, object x and source s
 unfoldable pub range_refusal : ℕ → ℕ → ℕ → ℕ → ℕ → Checked

@@ -1,6 +1,6 @@
 -- Replay: a serial order is run one transaction at a time. It mentions no edge. Transactions are at most `most`.
 use Rattle.std.specs.Prelude.{Bool, List, [], ◌∷◌, ℕ, suc}
-use Rattle.words.specs.Tests.{◌is◌, ◌below◌, ◌and◌, ◌implies◌, if◌then◌else◌, every}
+use Rattle.words.specs.Tests.{◌is◌, ◌below◌, ◌and◌, ◌implies◌, provided◌then◌else◌, every}
 use Rattle.words.specs.Lists.{all, before}
 use Rattle.graph.specs.Order.{once_each}
 use Rattle.verdict.specs.Log.{steps, tx, obj, src, committed, writer, write_one_object, commit_step}
@@ -10,7 +10,7 @@ module _ (log : List ℕ) where
   -- what r finds of x when w is run: the last writer of x that ran before r, or v if none did. In a clean log no read from another comes after r's own write
   unfoldable pub finds : ℕ → ℕ → ℕ → List ℕ → ℕ
   finds x r v [] = v
-  finds x r v (t ∷ w) = if t is r then v else finds x r (if writer log x t then t else v) w
+  finds x r v (t ∷ w) = provided t is r then v else finds x r (provided writer log x t then t else v) w
 
   -- every judged read from another finds its source as last writer of the object, 0 if none
   unfoldable pub reads_right : List ℕ → Bool

@@ -1,6 +1,6 @@
 -- The snapshot verdict. Transactions are at most `most`.
 use Rattle.std.specs.Prelude.{Bool, List, ℕ, suc}
-use Rattle.words.specs.Tests.{◌is◌, ◌below◌, ◌and◌, ◌or◌, fails, if◌then◌else◌, some, lowest, highest}
+use Rattle.words.specs.Tests.{◌is◌, ◌below◌, ◌and◌, ◌or◌, fails, provided◌then◌else◌, some, lowest, highest}
 use Rattle.verdict.specs.Log.{steps, kind, tx, obj, src, committed, begin_step, commit_step, commits_writer, write_one_object}
 use Rattle.verdict.specs.Clean.{judged_other, after_own_write}
 use Rattle.verdict.specs.Answers.{Writer, Store, Committed, Reader, Snapshot, Read, Write}
@@ -22,11 +22,11 @@ module _ (log : List ℕ) where
 
   -- the last transaction to commit, before step b, among the committed writers of x, and the step of its commit; the store if there is none
   unfoldable pub last_committed : ℕ → ℕ → Writer
-  last_committed b x = if last_commit b x below b then Committed (tx log (last_commit b x)) (last_commit b x) else Store
+  last_committed b x = provided last_commit b x below b then Committed (tx log (last_commit b x)) (last_commit b x) else Store
 
   -- what read i should have found: after its own write the reader itself, else the last committed writer of its object before its transaction's snapshot
   unfoldable pub wanted : ℕ → Writer
-  wanted i = if after_own_write log i then Reader (tx log i) else last_committed (snapshot_step (tx log i)) (obj log i)
+  wanted i = provided after_own_write log i then Reader (tx log i) else last_committed (snapshot_step (tx log i)) (obj log i)
 
   -- a judged read from another that names anyone else
   unfoldable pub wrong_read : ℕ → Bool
@@ -51,8 +51,8 @@ module _ (most : ℕ) (log : List ℕ) where
 
   -- the fault of a wrong step: a read with what it should have found, or a write with its lowest-numbered partner
   unfoldable pub snapshot_fault : ℕ → Snapshot
-  snapshot_fault k = if wrong_read log k then Read k (wanted log k) else Write k (lowest (suc most) (clash log k))
+  snapshot_fault k = provided wrong_read log k then Read k (wanted log k) else Write k (lowest (suc most) (clash log k))
 
   -- the verdict: yes, or the lowest wrong step
   unfoldable pub snapshot_verdict : Snapshot
-  snapshot_verdict = if some (steps log) wrong_step then snapshot_fault (lowest (steps log) wrong_step) else Snapshot.Yes
+  snapshot_verdict = provided some (steps log) wrong_step then snapshot_fault (lowest (steps log) wrong_step) else Snapshot.Yes

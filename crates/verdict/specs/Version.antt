@@ -1,6 +1,6 @@
 -- The version verdict: an object's versions are writer 0 and then its committed writers in commit order. Transactions are at most `most`.
 use Rattle.std.specs.Prelude.{◌≡◌, Bool, List, ℕ, suc}
-use Rattle.words.specs.Tests.{◌is◌, ◌below◌, ◌upto◌, ◌and◌, ◌or◌, fails, if◌then◌else◌, some, lowest}
+use Rattle.words.specs.Tests.{◌is◌, ◌below◌, ◌upto◌, ◌and◌, ◌or◌, fails, provided◌then◌else◌, some, lowest}
 use Rattle.verdict.specs.Log.{steps, tx, obj, src, committed, writer, commit_step, commits_writer}
 use Rattle.verdict.specs.Clean.{cleanness, judged}
 use Rattle.verdict.specs.Dependency.{some_dependency}
@@ -10,7 +10,7 @@ use Rattle.verdict.specs.Answers.{Fault, Cleanness}
 module _ (log : List ℕ) where
   -- from which step on a version after v's may be committed: the log's first for writer 0
   unfoldable pub versions_from : ℕ → ℕ
-  versions_from v = if v is 0 then 0 else suc (commit_step log v)
+  versions_from v = provided v is 0 then 0 else suc (commit_step log v)
 
   -- the step that commits the next version of x after v's; the number of steps if v's is the last
   unfoldable pub next_commit : ℕ → ℕ → ℕ

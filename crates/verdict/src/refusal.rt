@@ -1,6 +1,6 @@
 // The check of a log: the first of the numbers 1 to 11 that applies, with its place.
 ghost use Rattle.std.specs.Prelude.{◌≡◌, suc, ◌≤◌, length};
-ghost use Rattle.words.specs.Tests.{◌is◌, fails, if◌then◌else◌};
+ghost use Rattle.words.specs.Tests.{◌is◌, fails, provided◌then◌else◌};
 ghost use Rattle.verdict.specs.Limits.{transactions, most_steps, witness_buffer, work_bytes};
 ghost use Rattle.verdict.specs.Log.{steps};
 ghost use Rattle.verdict.specs.Refusal.{◌at◌when◌, ◌else_try◌, tried, step_refusal, open_refusal, log_refusal};

@@ -1,6 +1,6 @@
 // The snapshot verdict: what each judged read should have found, and which overlapping writers clash.
 ghost use Rattle.std.specs.Prelude.{◌≡◌, ◌≤◌, ◌<◌, ◌+◌, ◌*◌, length, get_or};
-ghost use Rattle.words.specs.Tests.{◌upto◌, if◌then◌else◌, some, lowest};
+ghost use Rattle.words.specs.Tests.{◌upto◌, provided◌then◌else◌, some, lowest};
 ghost use Rattle.bits.specs.Word.{marked};
 ghost use Rattle.verdict.specs.Limits.{transactions, objects};
 ghost use Rattle.verdict.specs.Log.{steps, kind, tx};
@@ -227,7 +227,7 @@ fn first_clash(
 
 // The lower of two steps.
 fn lower(a: usize, b: usize) -> usize
-    ensures { result ≡ (if a upto b then a else b) }
+    ensures { result ≡ (provided a upto b then a else b) }
 {
     if a <= b {
         return a;

@@ -4,8 +4,8 @@ use mathlib.Core.Bool.{Bool, true, false}
 use mathlib.Core.Logic.{◌⊎◌, inl, inr}
 use Prim.Native.Nat.{ℕ, ◌≤◌, ◌<◌}
 use native.Mathlib.Omega.{arith}
-use Rattle.words.specs.Tests.{◌below◌, ◌upto◌, ◌or◌, if◌then◌else◌, lowest}
-use Rattle.words.proofs.Truth.{decide, →or_left, →or_right, or_false, upto→, not_upto→, below→, not_below→, if_true, if_false, →none, lowest_is, lowest_at, lowest_none, lowest_passes, lowest_bound, below_lowest}
+use Rattle.words.specs.Tests.{◌below◌, ◌upto◌, ◌or◌, provided◌then◌else◌, lowest}
+use Rattle.words.proofs.Truth.{decide, →or_left, →or_right, or_false, upto→, not_upto→, below→, not_below→, provided_true, provided_false, →none, lowest_is, lowest_at, lowest_none, lowest_passes, lowest_bound, below_lowest}
 
 module _ (n : ℕ) (p q : ℕ → Bool) where
   either : ℕ → Bool
@@ -31,10 +31,10 @@ module _ (n : ℕ) (p q : ℕ → Bool) where
   right_lower h = lowest_at either (lowest n q) (omega (arith, lowest_bound {n = n} p)) (→or_right _ (lowest_is q (lowest_passes q (omega (arith, lowest_bound {n = n} p)))).1) (λ (i : ℕ) (l : i < lowest n q). neither i (omega arith) l)
 
   -- it is the lower of the two
-  pub lowest_either : lowest n (λ i. p i or q i) ≡ (if lowest n p upto lowest n q then lowest n p else lowest n q)
+  pub lowest_either : lowest n (λ i. p i or q i) ≡ (provided lowest n p upto lowest n q then lowest n p else lowest n q)
   unfolding either
   lowest_either = go (decide (lowest n p upto lowest n q))
     where
-      go : ((lowest n p upto lowest n q) ≡ true) ⊎ ((lowest n p upto lowest n q) ≡ false) → lowest n either ≡ (if lowest n p upto lowest n q then lowest n p else lowest n q)
-      go (inl k) = left_lower (upto→ k) ∙ sym (if_true _ _ k)
-      go (inr k) = right_lower (not_upto→ k) ∙ sym (if_false _ _ k)
+      go : ((lowest n p upto lowest n q) ≡ true) ⊎ ((lowest n p upto lowest n q) ≡ false) → lowest n either ≡ (provided lowest n p upto lowest n q then lowest n p else lowest n q)
+      go (inl k) = left_lower (upto→ k) ∙ sym (provided_true _ _ k)
+      go (inr k) = right_lower (not_upto→ k) ∙ sym (provided_false _ _ k)

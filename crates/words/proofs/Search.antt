@@ -7,18 +7,18 @@ use Prim.Native.Nat.{ℕ, zero, suc, ◌<◌}
 use native.Mathlib.Nat.{not-suc-le-zero}
 use native.Mathlib.Omega.{arith}
 use lib.ListN.{length}
-use Rattle.words.specs.Tests.{◌below◌, ◌and◌, if◌then◌else◌}
+use Rattle.words.specs.Tests.{◌below◌, ◌and◌, provided◌then◌else◌}
 use Rattle.words.specs.Lists.{member, all}
 use Rattle.words.specs.First.{dictionary, shorter, First, Never, later}
 use Rattle.words.specs.Listed.{Among, here, further, Rises, rises_none, rises_more, Listed}
-use Rattle.words.proofs.Truth.{decide, not_both, to_false, and→, →and, →or_left, →or_right, →is, below→, →below, not_below→, if_true, if_false}
+use Rattle.words.proofs.Truth.{decide, not_both, to_false, and→, →and, →or_left, →or_right, →is, below→, →below, not_below→, provided_true, provided_false}
 use Rattle.words.proofs.Dictionary.{dictionary_same, dictionary_asym, first_one}
 use Rattle.words.proofs.Places.{member→, all→, member_head, member_tail}
 
 -- the numbers below n that pass, ascending, and then the list l
 unfoldable pub ascending : ℕ → (ℕ → Bool) → List ℕ → List ℕ
 ascending zero p l = l
-ascending (suc n) p l = ascending n p (if p n then n ∷ l else l)
+ascending (suc n) p l = ascending n p (provided p n then n ∷ l else l)
 
 -- cs rises
 unfoldable pub rising : List ℕ → Bool
@@ -47,7 +47,7 @@ short_tuples (suc k) cs = short_tuples k cs ++ tuples k cs
 -- those that pass
 unfoldable pub sift : (List ℕ → Bool) → List (List ℕ) → List (List ℕ)
 sift p [] = []
-sift p (w ∷ ws) = if p w then w ∷ sift p ws else sift p ws
+sift p (w ∷ ws) = provided p w then w ∷ sift p ws else sift p ws
 
 -- WHAT IS AMONG THEM
 no_list : {v : List ℕ} {ws : List (List ℕ)} → Among v ws → ws ≡ [] → ⊥
@@ -150,28 +150,28 @@ module _ (earlier : List ℕ → List ℕ → Bool) where
     where
       go : (p w ≡ true) ⊎ (p w ≡ false) → (Among v (sift p ws) → Among v ws × (p v ≡ true)) → Among v (w ∷ ws) × (p v ≡ true)
       go (inl h) rec =
-          ⊎_elim (λ (e : v ≡ w). rw e (here, h)) (λ k. (further (rec k).0, (rec k).1)) (among→ (rw (if_true (w ∷ sift p ws) (sift p ws) h) at a))
-      go (inr h) rec = let r = rec (rw (if_false (w ∷ sift p ws) (sift p ws) h) at a) in (further r.0, r.1)
+          ⊎_elim (λ (e : v ≡ w). rw e (here, h)) (λ k. (further (rec k).0, (rec k).1)) (among→ (rw (provided_true (w ∷ sift p ws) (sift p ws) h) at a))
+      go (inr h) rec = let r = rec (rw (provided_false (w ∷ sift p ws) (sift p ws) h) at a) in (further r.0, r.1)
 
   pub sift_rises : (p : List ℕ → Bool) (ws : List (List ℕ)) → Rises earlier ws → Rises earlier (sift p ws)
   unfolding sift
   sift_rises p [] r = rises_none
   sift_rises p (w ∷ ws) (rises_more g r) = go (decide (p w)) (sift_rises p ws r)
     where
-      go : (p w ≡ true) ⊎ (p w ≡ false) → Rises earlier (sift p ws) → Rises earlier (if p w then w ∷ sift p ws else sift p ws)
-      go (inl h) rec = rw (if_true (w ∷ sift p ws) (sift p ws) h) (rises_more (λ v a. g v (sift→ p ws v a).0) rec)
-      go (inr h) rec = rw (if_false (w ∷ sift p ws) (sift p ws) h) rec
+      go : (p w ≡ true) ⊎ (p w ≡ false) → Rises earlier (sift p ws) → Rises earlier (provided p w then w ∷ sift p ws else sift p ws)
+      go (inl h) rec = rw (provided_true (w ∷ sift p ws) (sift p ws) h) (rises_more (λ v a. g v (sift→ p ws v a).0) rec)
+      go (inr h) rec = rw (provided_false (w ∷ sift p ws) (sift p ws) h) rec
 
 pub →sift : (p : List ℕ → Bool) (ws : List (List ℕ)) (v : List ℕ) → Among v ws → p v ≡ true → Among v (sift p ws)
 unfolding sift
 →sift p [] v a h = absurd (not_among a)
 →sift p (w ∷ ws) v a h = go (decide (p w)) (among→ a) (λ k. →sift p ws v k h)
   where
-    go : (p w ≡ true) ⊎ (p w ≡ false) → (v ≡ w) ⊎ Among v ws → (Among v ws → Among v (sift p ws)) → Among v (if p w then w ∷ sift p ws else sift p ws)
-    go (inl k) (inl e) rec = rw (if_true (w ∷ sift p ws) (sift p ws) k) (rw e here)
-    go (inl k) (inr b) rec = rw (if_true (w ∷ sift p ws) (sift p ws) k) (further (rec b))
+    go : (p w ≡ true) ⊎ (p w ≡ false) → (v ≡ w) ⊎ Among v ws → (Among v ws → Among v (sift p ws)) → Among v (provided p w then w ∷ sift p ws else sift p ws)
+    go (inl k) (inl e) rec = rw (provided_true (w ∷ sift p ws) (sift p ws) k) (rw e here)
+    go (inl k) (inr b) rec = rw (provided_true (w ∷ sift p ws) (sift p ws) k) (further (rec b))
     go (inr k) (inl e) rec = absurd (not_both h (rw e k))
-    go (inr k) (inr b) rec = rw (if_false (w ∷ sift p ws) (sift p ws) k) (rec b)
+    go (inr k) (inr b) rec = rw (provided_false (w ∷ sift p ws) (sift p ws) k) (rec b)
 
 put_rises : (c : ℕ) (ws : List (List ℕ)) → Rises dictionary ws → Rises dictionary (put_before c ws)
 unfolding put_before dictionary

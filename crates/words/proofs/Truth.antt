@@ -7,7 +7,7 @@ use native.Mathlib.Omega.{arith}
 use native.Mathlib.Nat.{not-suc-le-zero}
 use native.Mathlib.Numerals.{add-one}
 use borrow.Author.Tests.{ltb-true, ltb-false, leb-true, leb-false, eqb-true, eqb-false, lt-ltb, le-ltb, le-leb, lt-leb, eq-eqb, ne_eqb}
-use Rattle.words.specs.Tests.{◌is◌, ◌below◌, ◌upto◌, ◌and◌, ◌or◌, ◌implies◌, fails, if◌then◌else◌, some, every, count, lowest, highest}
+use Rattle.words.specs.Tests.{◌is◌, ◌below◌, ◌upto◌, ◌and◌, ◌or◌, ◌implies◌, fails, provided◌then◌else◌, some, every, count, lowest, highest}
 
 -- a test passes or fails
 pub decide : (b : Bool) → (b ≡ true) ⊎ (b ≡ false)
@@ -179,15 +179,15 @@ unfolding ◌upto◌
 
 -- the choice
 module _ {ℓ} {A : Type ℓ} where
-  pub if_true : {b : Bool} (x y : A) → b ≡ true → (if b then x else y) ≡ x
-  unfolding if◌then◌else◌
-  if_true {b = true} x y h = refl
-  if_true {b = false} x y h = absurd (false≢true h)
+  pub provided_true : {b : Bool} (x y : A) → b ≡ true → (provided b then x else y) ≡ x
+  unfolding provided◌then◌else◌
+  provided_true {b = true} x y h = refl
+  provided_true {b = false} x y h = absurd (false≢true h)
 
-  pub if_false : {b : Bool} (x y : A) → b ≡ false → (if b then x else y) ≡ y
-  unfolding if◌then◌else◌
-  if_false {b = true} x y h = absurd (true≢false h)
-  if_false {b = false} x y h = refl
+  pub provided_false : {b : Bool} (x y : A) → b ≡ false → (provided b then x else y) ≡ y
+  unfolding provided◌then◌else◌
+  provided_false {b = true} x y h = absurd (true≢false h)
+  provided_false {b = false} x y h = refl
 
 -- questions over the numbers below n
 pub some→ : {n : ℕ} {p : ℕ → Bool} → some n p ≡ true → (i : ℕ) × (i < n) × (p i ≡ true)
@@ -248,11 +248,11 @@ lowest_is {n = suc n} p h = go (decide (some n p)) (λ k. lowest_is {n = n} p k)
         → (some n p ≡ true) ⊎ (p n ≡ true)
         → (lowest (suc n) p < suc n) × (p (lowest (suc n) p) ≡ true) × ((i : ℕ) → i < lowest (suc n) p → p i ≡ false)
     go (inl k) rec c =
-        rw (if_true (lowest n p) (if p n then n else suc n) k)
+        rw (provided_true (lowest n p) (provided p n then n else suc n) k)
         (let r = rec k in (omega (arith, r.0), r.1, r.2))
     go (inr k) rec (inl c) = absurd (not_both c k)
     go (inr k) rec (inr c) =
-        rw (if_false (lowest n p) (if p n then n else suc n) k, if_true n (suc n) c)
+        rw (provided_false (lowest n p) (provided p n then n else suc n) k, provided_true n (suc n) c)
         (omega arith, c, none→ p k)
 
 pub lowest_none : {n : ℕ} (p : ℕ → Bool) → some n p ≡ false → lowest n p ≡ n
@@ -261,7 +261,7 @@ lowest_none {n = zero} p h = refl
 lowest_none {n = suc n} p h =
     let a : some n p ≡ false = →none p (λ (i : ℕ) (k : i < n). none→ {n = suc n} p h i (omega arith)) in
     let b : p n ≡ false = none→ {n = suc n} p h n (omega arith) in
-    if_false (lowest n p) (if p n then n else suc n) a ∙ if_false n (suc n) b
+    provided_false (lowest n p) (provided p n then n else suc n) a ∙ provided_false n (suc n) b
 
 pub lowest_passes : {n : ℕ} (p : ℕ → Bool) → lowest n p < n → some n p ≡ true
 lowest_passes {n} p h = to_true _ (λ k. let e : lowest n p ≡ n = lowest_none p k in omega arith)
@@ -308,25 +308,25 @@ lowest_le {n} p i h q = go (decide (i below lowest n p))
 -- one number more
 pub count_yes : (i : ℕ) (p : ℕ → Bool) → p i ≡ true → count (i + 1) p ≡ suc (count i p)
 unfolding count
-count_yes i p h = rw (add-one i) (if_true (suc (count i p)) (count i p) h)
+count_yes i p h = rw (add-one i) (provided_true (suc (count i p)) (count i p) h)
 
 pub count_no : (i : ℕ) (p : ℕ → Bool) → p i ≡ false → count (i + 1) p ≡ count i p
 unfolding count
-count_no i p h = rw (add-one i) (if_false (suc (count i p)) (count i p) h)
+count_no i p h = rw (add-one i) (provided_false (suc (count i p)) (count i p) h)
 
 pub count_none : (n : ℕ) (p : ℕ → Bool) → some n p ≡ false → count n p ≡ 0
 unfolding count
 count_none zero p h = refl
-count_none (suc n) p h = if_false _ _ (none→ {n = suc n} p h n (omega arith)) ∙ count_none n p (none_below {i = suc n} n p h (omega arith))
+count_none (suc n) p h = provided_false _ _ (none→ {n = suc n} p h n (omega arith)) ∙ count_none n p (none_below {i = suc n} n p h (omega arith))
 
 -- a count is at most the bound, and less where 0 does not pass
 pub count_above : (n : ℕ) (p : ℕ → Bool) → p 0 ≡ false → count (suc n) p ≤ n
 unfolding count
-count_above zero p h = let e : count 1 p ≡ 0 = if_false 1 0 h in omega arith
+count_above zero p h = let e : count 1 p ≡ 0 = provided_false 1 0 h in omega arith
 count_above (suc n) p h =
     let r : count (suc n) p ≤ n = count_above n p h in
-    ⊎_elim (λ (k : p (suc n) ≡ true). let e : count (suc (suc n)) p ≡ suc (count (suc n) p) = if_true _ _ k in omega arith)
-    (λ (k : p (suc n) ≡ false). let e : count (suc (suc n)) p ≡ count (suc n) p = if_false _ _ k in omega arith) (decide (p (suc n)))
+    ⊎_elim (λ (k : p (suc n) ≡ true). let e : count (suc (suc n)) p ≡ suc (count (suc n) p) = provided_true _ _ k in omega arith)
+    (λ (k : p (suc n) ≡ false). let e : count (suc (suc n)) p ≡ count (suc n) p = provided_false _ _ k in omega arith) (decide (p (suc n)))
 
 -- more numbers, and no fewer that pass
 pub count_upto : (m n : ℕ) (p : ℕ → Bool) → m ≤ n → count m p ≤ count n p
@@ -338,8 +338,8 @@ count_upto m (suc n) p h = go (decide (m upto n)) (λ l. count_upto m n p l)
     go (inr k) again = let e : m ≡ suc n = omega (arith, not_upto→ k) in rw e (omega arith)
     go (inl k) again =
         let r : count m p ≤ count n p = again (upto→ k) in
-        ⊎_elim (λ (q : p n ≡ true). let e : count (suc n) p ≡ suc (count n p) = if_true _ _ q in omega arith)
-        (λ (q : p n ≡ false). let e : count (suc n) p ≡ count n p = if_false _ _ q in omega arith) (decide (p n))
+        ⊎_elim (λ (q : p n ≡ true). let e : count (suc n) p ≡ suc (count n p) = provided_true _ _ q in omega arith)
+        (λ (q : p n ≡ false). let e : count (suc n) p ≡ count n p = provided_false _ _ q in omega arith) (decide (p n))
 
 pub some_next : (i : ℕ) (p : ℕ → Bool) → some (i + 1) p ≡ (some i p or p i)
 unfolding some
@@ -358,16 +358,16 @@ every_next i p = rw (add-one i) refl
 -- the highest: one number more
 pub highest_yes : (n : ℕ) (p : ℕ → Bool) → p n ≡ true → highest (suc n) p ≡ n
 unfolding highest
-highest_yes n p h = if_true n (if some n p then highest n p else suc n) h
+highest_yes n p h = provided_true n (provided some n p then highest n p else suc n) h
 
 pub highest_no : (n : ℕ) (p : ℕ → Bool) → p n ≡ false → some n p ≡ true → highest (suc n) p ≡ highest n p
 unfolding highest
-highest_no n p h k = if_false n (if some n p then highest n p else suc n) h ∙ if_true (highest n p) (suc n) k
+highest_no n p h k = provided_false n (provided some n p then highest n p else suc n) h ∙ provided_true (highest n p) (suc n) k
 
 pub highest_none : (n : ℕ) (p : ℕ → Bool) → some n p ≡ false → highest n p ≡ n
 unfolding highest
 highest_none zero p h = refl
-highest_none (suc n) p h = if_false _ _ (none→ {n = suc n} p h n (omega arith)) ∙ if_false _ _ (none_below {i = suc n} n p h (omega arith))
+highest_none (suc n) p h = provided_false _ _ (none→ {n = suc n} p h n (omega arith)) ∙ provided_false _ _ (none_below {i = suc n} n p h (omega arith))
 
 -- where one passes, the highest is below n and passes, and nothing between them does
 pub highest_is : (n : ℕ) (p : ℕ → Bool) → some n p ≡ true → (highest n p < n) × (p (highest n p) ≡ true) × ((i : ℕ) → highest n p < i → i < n → p i ≡ false)
@@ -412,16 +412,16 @@ count_without zero p t h k = absurd (not-suc-le-zero h)
 count_without (suc n) p t h k = go (decide (n is t)) (λ l. count_without n p t l k)
   where
     go : ((n is t) ≡ true) ⊎ ((n is t) ≡ false) → (t < n → suc (count n (λ i. p i and fails (i is t))) ≡ count n p)
-        → suc (if p n and fails (n is t) then suc (count n (λ i. p i and fails (i is t))) else count n (λ i. p i and fails (i is t))) ≡ (if p n then suc (count n p) else count n p)
+        → suc (provided p n and fails (n is t) then suc (count n (λ i. p i and fails (i is t))) else count n (λ i. p i and fails (i is t))) ≡ (provided p n then suc (count n p) else count n p)
     go (inl e) again =
         let z : n ≡ t = is→ e in
-        ap suc (if_false _ _ (and_no_right _ (→not_fails e)) ∙ count_same n _ p (λ (i : ℕ) (l : i < n). and_true_right (p i) (→fails (→isnt (λ (q : i ≡ t). omega arith)))))
-        ∙ sym (if_true _ _ (rw z k))
+        ap suc (provided_false _ _ (and_no_right _ (→not_fails e)) ∙ count_same n _ p (λ (i : ℕ) (l : i < n). and_true_right (p i) (→fails (→isnt (λ (q : i ≡ t). omega arith)))))
+        ∙ sym (provided_true _ _ (rw z k))
     go (inr e) again =
         let z : n ≡ t → ⊥ = isnt→ e in
         let rec : suc (count n (λ i. p i and fails (i is t))) ≡ count n p = again (omega arith) in
-        ⊎_elim (λ (q : p n ≡ true). ap suc (if_true _ _ (→and q (→fails e)) ∙ rec) ∙ sym (if_true _ _ q))
-        (λ (q : p n ≡ false). ap suc (if_false _ _ (and_no_left _ q)) ∙ rec ∙ sym (if_false _ _ q)) (decide (p n))
+        ⊎_elim (λ (q : p n ≡ true). ap suc (provided_true _ _ (→and q (→fails e)) ∙ rec) ∙ sym (provided_true _ _ q))
+        (λ (q : p n ≡ false). ap suc (provided_false _ _ (and_no_left _ q)) ∙ rec ∙ sym (provided_false _ _ q)) (decide (p n))
 
 pub none_counted : (n : ℕ) (p : ℕ → Bool) → count n p ≡ 0 → (i : ℕ) → i < n → p i ≡ false
 none_counted n p h i k = to_false (p i) (λ q. let z : suc (count n (λ j. p j and fails (j is i))) ≡ count n p = count_without n p i k q in omega arith)

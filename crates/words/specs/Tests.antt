@@ -36,10 +36,10 @@ fails true = false
 fails false = true
 
 module _ {ℓ} {A : Type ℓ} where
-  infixr 10 if◌then◌else◌
-  unfoldable pub if◌then◌else◌ : Bool → A → A → A
-  if true then a else b = a
-  if false then a else b = b
+  infixr 10 provided◌then◌else◌
+  unfoldable pub provided◌then◌else◌ : Bool → A → A → A
+  provided true then a else b = a
+  provided false then a else b = b
 
 -- some number below n passes
 unfoldable pub some : ℕ → (ℕ → Bool) → Bool
@@ -54,14 +54,14 @@ every (suc n) p = every n p and p n
 -- how many numbers below n pass
 unfoldable pub count : ℕ → (ℕ → Bool) → ℕ
 count zero p = zero
-count (suc n) p = if p n then suc (count n p) else count n p
+count (suc n) p = provided p n then suc (count n p) else count n p
 
 -- the lowest number below n that passes; n if none does
 unfoldable pub lowest : ℕ → (ℕ → Bool) → ℕ
 lowest zero p = zero
-lowest (suc n) p = if some n p then lowest n p else if p n then n else suc n
+lowest (suc n) p = provided some n p then lowest n p else provided p n then n else suc n
 
 -- the highest number below n that passes; n if none does
 unfoldable pub highest : ℕ → (ℕ → Bool) → ℕ
 highest zero p = zero
-highest (suc n) p = if p n then n else if some n p then highest n p else suc n
+highest (suc n) p = provided p n then n else provided some n p then highest n p else suc n

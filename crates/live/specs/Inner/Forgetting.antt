@@ -1,6 +1,6 @@
 -- What the private functions that forget promise.
 use Rattle.std.specs.Prelude.{◌≡◌, Bool, true, false, List, ℕ, suc, ◌+◌, ◌*◌, ◌≤◌, ◌<◌, length, set}
-use Rattle.words.specs.Tests.{◌is◌, ◌below◌, ◌upto◌, ◌and◌, fails, if◌then◌else◌, some, count}
+use Rattle.words.specs.Tests.{◌is◌, ◌below◌, ◌upto◌, ◌and◌, fails, provided◌then◌else◌, some, count}
 use Rattle.graph.specs.Matrix.{vertices, in_row}
 use Rattle.live.specs.SoFar.{numbers}
 use Rattle.live.specs.Forgotten.{Rests}
@@ -55,7 +55,7 @@ pub record Passes (opened rows edges : List ℕ) (n least : ℕ) (rows' edges' :
 
 -- the rows, with a number in row 0 that is not above `top`
 unfoldable pub lowered : List ℕ → ℕ → List ℕ
-lowered rows top = if top below until_at rows 0 then set rows 66 top else rows
+lowered rows top = provided top below until_at rows 0 then set rows 66 top else rows
 
 -- where r is true, somebody is open, at one of the first n places, who overlapped all that are kept
 abbrev pub Holder : (opened rows : List ℕ) → ℕ → Bool → Type 0

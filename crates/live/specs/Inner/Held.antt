@@ -1,6 +1,6 @@
 -- The rows hold the steps accepted: what they say of each transaction is what the log says.
 use Rattle.std.specs.Prelude.{◌≡◌, Bool, true, false, List, ℕ, ◌≤◌, ◌<◌}
-use Rattle.words.specs.Tests.{◌is◌, ◌upto◌, ◌or◌, if◌then◌else◌}
+use Rattle.words.specs.Tests.{◌is◌, ◌upto◌, ◌or◌, provided◌then◌else◌}
 use Rattle.bits.specs.Word.{marked}
 use Rattle.graph.specs.Matrix.{in_row}
 use Rattle.verdict.specs.Limits.{objects}
@@ -43,7 +43,7 @@ pub record Held (log : List ℕ) (top count : ℕ) (b : Table) : Type 0 where
   pub once : (p q : ℕ) → Place places p → Place places q → 1 ≤ name_at b.rows p → name_at b.rows p ≡ name_at b.rows q → p ≡ q
   pub row : (p : ℕ) → Place places p → 1 ≤ name_at b.rows p → Row log (name_at b.rows p) (status_at b.rows p) (sees_at b.rows p) (writes_at b.marks p) (reads_at b.marks p)
   pub free : (p : ℕ) → Place places p → name_at b.rows p ≡ 0 → status_at b.rows p ≡ 0
-  pub opened : (p : ℕ) → Place places p → open_at b.opened p ≡ (if is_open log (name_at b.rows p) then name_at b.rows p else 0)
+  pub opened : (p : ℕ) → Place places p → open_at b.opened p ≡ (provided is_open log (name_at b.rows p) then name_at b.rows p else 0)
   pub last : (x : ℕ) → x < objects → sees_at b.rows 0 x ≡ last_writer log (steps log) x
   -- who had begun when the transaction of a place committed
   pub until : (p : ℕ) → Place places p → committed log (name_at b.rows p) ≡ true → (t : ℕ) → 1 ≤ t → passed_by log (commit_step log (name_at b.rows p)) t ≡ (t upto until_at b.rows p)

@@ -1,6 +1,6 @@
 -- The check of a log, walked once: which number applies to a step, what is noted before it, and what is learned in the end.
 use Rattle.std.specs.Prelude.{◌≡◌, true, false, List, ℕ, zero, suc, ◌+◌, ◌≤◌, ◌<◌, length, get_or}
-use Rattle.words.specs.Tests.{◌is◌, ◌below◌, ◌upto◌, ◌and◌, fails, if◌then◌else◌, some, lowest}
+use Rattle.words.specs.Tests.{◌is◌, ◌below◌, ◌upto◌, ◌and◌, fails, provided◌then◌else◌, some, lowest}
 use Rattle.graph.specs.Matrix.{takes_part}
 use Rattle.verdict.specs.Limits.{transactions, objects}
 use Rattle.verdict.specs.Log.{steps, kind, tx, obj, src, begun, ended}
@@ -25,8 +25,8 @@ pub record Asks (k : ℕ) (r : Asked) : Type 0 where
   pub known : (1 upto k and k upto 5) ≡ true
   pub object : (x : ℕ) → (x below objects and x below r.objects) ≡ object_allowed k x
   pub source : (s : ℕ) → (s upto r.source) ≡ source_allowed k s
-  pub far : r.life ≡ (if k is 1 then 0 else 1)
-  pub number : r.late ≡ (if k is 1 then 7 else 8)
+  pub far : r.life ≡ (provided k is 1 then 0 else 1)
+  pub number : r.late ≡ (provided k is 1 then 7 else 8)
 
 -- 4 to 6, by what the kind asks
 unfoldable pub in_range : ℕ → ℕ → ℕ → ℕ → Asked → Checked
@@ -42,7 +42,7 @@ open_by_lives lives t = 11 at t when get_or lives t 0 is 1
 module _ (log : List ℕ) where
   -- how far t has come before step i: 0 not begun, 1 open, 2 ended
   unfoldable pub life : ℕ → ℕ → ℕ
-  life i t = if begun log i t then (if ended log i t then 2 else 1) else 0
+  life i t = provided begun log i t then (provided ended log i t then 2 else 1) else 0
 
   -- the table has, for each transaction, its one step of kind k before step i, or the number of steps
   pub record StepsBefore (k i : ℕ) (table : List ℕ) : Type 0 where
@@ -53,7 +53,7 @@ module _ (log : List ℕ) where
   -- the last to commit before step j, or 0
   unfoldable pub committer : ℕ → ℕ
   committer zero = 0
-  committer (suc j) = if kind log j is 4 then tx log j else committer j
+  committer (suc j) = provided kind log j is 4 then tx log j else committer j
 
   -- the table has, for each who commits before step i, who committed before that; entry 0 has the last
   pub record CommitOrder (i : ℕ) (table : List ℕ) : Type 0 where

@@ -1,6 +1,6 @@
 -- The edges of the conflict graph, pair of steps by pair of steps.
 use Rattle.std.specs.Prelude.{◌≡◌, Bool, ◌⊎◌, List, ℕ, suc, ◌+◌, ◌<◌, length, replicate}
-use Rattle.words.specs.Tests.{◌is◌, ◌upto◌, ◌and◌, ◌or◌, fails, if◌then◌else◌, some}
+use Rattle.words.specs.Tests.{◌is◌, ◌upto◌, ◌and◌, ◌or◌, fails, provided◌then◌else◌, some}
 use Rattle.graph.specs.Matrix.{row_words, takes_part, in_row, Joins}
 use Rattle.verdict.specs.Limits.{transactions, objects}
 use Rattle.verdict.specs.Log.{steps, kind, tx, obj, committed}
@@ -8,7 +8,7 @@ use Rattle.verdict.specs.Inner.Edges.{one_edge}
 
 -- which row has those that read an object, and which those that write it; 0 stands for none
 unfoldable pub touched_row : ℕ → ℕ → ℕ
-touched_row k x = if k is 2 then suc x else if k is 3 then suc (x + objects) else 0
+touched_row k x = provided k is 2 then suc x else provided k is 3 then suc (x + objects) else 0
 
 -- a is among those whose earlier steps meet a step of kind k on x: the writers of x, and for a write its readers too
 unfoldable pub earlier_touch : List ℕ → ℕ → ℕ → ℕ → Bool

@@ -1,6 +1,6 @@
 -- The table of the writers of the next versions, filled from the last commit to the first.
 use Rattle.std.specs.Prelude.{◌≡◌, true, List, ℕ, ◌+◌, ◌*◌, ◌≤◌, ◌<◌, length, get_or}
-use Rattle.words.specs.Tests.{◌is◌, ◌and◌, ◌or◌, if◌then◌else◌}
+use Rattle.words.specs.Tests.{◌is◌, ◌and◌, ◌or◌, provided◌then◌else◌}
 use Rattle.bits.specs.Word.{marked}
 use Rattle.verdict.specs.Limits.{transactions, objects}
 use Rattle.verdict.specs.Log.{writer}
@@ -14,7 +14,7 @@ at table v x = get_or table (v * objects + x) 0
 pub record PutBefore (table : List ℕ) (marks t : ℕ) (after : List ℕ) : Type 0 where
   pub size : length after ≡ length table
   pub entry : (v x : ℕ) → v ≤ transactions → x < objects
-      → at after v x ≡ (if marked marks x and v is 0 then t else if marked marks x and v is t then at table 0 x else at table v x)
+      → at after v x ≡ (provided marked marks x and v is 0 then t else provided marked marks x and v is t then at table 0 x else at table v x)
 
 -- the store's entry and those of an object's writers have the writers of the next versions
 pub record NextWriters (log table : List ℕ) : Type 0 where

@@ -1,6 +1,6 @@
 -- What the exact search keeps while it places transactions.
 use Rattle.std.specs.Prelude.{◌≡◌, Bool, true, false, List, [], ◌∷◌, ◌++◌, ℕ, zero, suc, ◌+◌, ◌*◌, ◌≤◌, ◌<◌, length, get_or, take}
-use Rattle.words.specs.Tests.{◌is◌, ◌and◌, ◌or◌, fails, if◌then◌else◌, every, count}
+use Rattle.words.specs.Tests.{◌is◌, ◌and◌, ◌or◌, fails, provided◌then◌else◌, every, count}
 use Rattle.words.specs.Lists.{member, all, distinct}
 use Rattle.words.specs.First.{dictionary, First, Never}
 use Rattle.bits.specs.Word.{marked, less}
@@ -19,7 +19,7 @@ barred = 255
 
 -- one more source is asked for
 unfoldable pub needing : ℕ → ℕ → ℕ
-needing e s = if e is 0 then suc s else if e is suc s then e else barred
+needing e s = provided e is 0 then suc s else provided e is suc s then e else barred
 
 -- the need allows v as last writer
 unfoldable pub allows : ℕ → ℕ → Bool
@@ -45,7 +45,7 @@ pub record OneMore (i : ℕ) (run next : Run) : Type 0 where
 -- the last writers when t has run too: t of what it writes, the one before of every other object
 pub record LastAfter (writes : List ℕ) (t : ℕ) (last after : List ℕ) : Type 0 where
   pub size : length after ≡ length last
-  pub each : (x : ℕ) → x < objects → get_or after x 0 ≡ (if marked (get_or writes t 0) x then t else get_or last x 0)
+  pub each : (x : ℕ) → x < objects → get_or after x 0 ≡ (provided marked (get_or writes t 0) x then t else get_or last x 0)
 
 module _ (log : List ℕ) where
   -- step i is a judged read of x by t from another
@@ -55,12 +55,12 @@ module _ (log : List ℕ) where
   -- what the first n steps need t to find of x
   unfoldable pub need : ℕ → ℕ → ℕ → ℕ
   need t x zero = 0
-  need t x (suc i) = if needs_source t x i then needing (need t x i) (src log i) else need t x i
+  need t x (suc i) = provided needs_source t x i then needing (need t x i) (src log i) else need t x i
 
   -- the last writer of x when p has run, or v if there is none
   unfoldable pub ran : ℕ → ℕ → List ℕ → ℕ
   ran x v [] = v
-  ran x v (t ∷ p) = ran x (if writer log x t then t else v) p
+  ran x v (t ∷ p) = ran x (provided writer log x t then t else v) p
 
   -- the table of needs, for the committed transactions
   pub record Needs (table : List ℕ) : Type 0 where

@@ -1,6 +1,6 @@
 -- How the reasons on a cycle are found: one number for each member, the least of those that are offered while the log is walked.
 use Rattle.std.specs.Prelude.{◌≡◌, Bool, true, ◌⊎◌, List, map, ℕ, suc, ◌+◌, ◌*◌, ◌/◌, ◌%◌, ◌≤◌, ◌<◌, length, get_or, set}
-use Rattle.words.specs.Tests.{◌is◌, ◌below◌, ◌and◌, ◌or◌, if◌then◌else◌}
+use Rattle.words.specs.Tests.{◌is◌, ◌below◌, ◌and◌, ◌or◌, provided◌then◌else◌}
 use Rattle.verdict.specs.Limits.{transactions}
 use Rattle.verdict.specs.Reason.{Entry}
 use Rattle.verdict.specs.Outcome.{Outcome, said}
@@ -23,7 +23,7 @@ abbrev pub no_reason : ℕ
 no_reason = 256
 
 unfoldable pub number_if : Bool → ℕ → ℕ → ℕ
-number_if fits x k = if fits then reason_number x k else no_reason
+number_if fits x k = provided fits then reason_number x k else no_reason
 
 -- the members with the reasons that these numbers say
 unfoldable pub entry_of : List ℕ → ℕ → Entry
@@ -60,7 +60,7 @@ pub record Best (c : List ℕ) (on : ℕ → ℕ → ℕ → ℕ → Bool) (tabl
 
 -- a number is offered for a: the lower one is kept
 unfoldable pub offered : List ℕ → ℕ → ℕ → List ℕ
-offered table a e = if e below get_or table a 0 then set table a e else table
+offered table a e = provided e below get_or table a 0 then set table a e else table
 
 -- the edge from s to t of kind l on y is such a reason
 unfoldable pub edge_on : ℕ → ℕ → ℕ → ℕ → ℕ → ℕ → ℕ → ℕ → Bool

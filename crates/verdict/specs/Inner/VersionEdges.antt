@@ -1,6 +1,6 @@
 -- The edges of the version graph, step by step.
 use Rattle.std.specs.Prelude.{Bool, List, ℕ}
-use Rattle.words.specs.Tests.{◌is◌, ◌below◌, ◌and◌, ◌or◌, fails, if◌then◌else◌, some}
+use Rattle.words.specs.Tests.{◌is◌, ◌below◌, ◌and◌, ◌or◌, fails, provided◌then◌else◌, some}
 use Rattle.verdict.specs.Log.{steps, kind, tx, obj, src, committed}
 use Rattle.verdict.specs.Clean.{judged}
 use Rattle.verdict.specs.Version.{next_commit, next_version}
@@ -22,7 +22,7 @@ module _ (log : List ℕ) where
 
   -- the writer of the next version of x after v's; 0 where v's is the last
   unfoldable pub next_writer : ℕ → ℕ → ℕ
-  next_writer x v = if next_commit log x v below steps log then tx log (next_commit log x v) else 0
+  next_writer x v = provided next_commit log x v below steps log then tx log (next_commit log x v) else 0
 
   -- the edges of a write and of a read, each of a committed transaction; and of all steps below n
   unfoldable pub write_edges : ℕ → ℕ → ℕ → Bool

@@ -3,7 +3,6 @@ use mathlib.Core.Path.{◌≡◌, refl, sym, ◌∙◌}
 use mathlib.Core.Bool.{true}
 use Prim.Native.Nat.{◌<◌}
 use native.Mathlib.Omega.{arith}
-use Rattle.words.specs.Tests.{◌below◌, ◌and◌, some}
 use Rattle.words.proofs.Truth.{→and, and_no_left, →below, →not_below, →some, →none, none→}
 use Rattle.bits.specs.Word.{marked}
 use Rattle.bits.proofs.Walks.{turn, fewer, asked}

@@ -25,7 +25,7 @@ loop-s-preserved c =
       omega arith,
       found.size,
       elim c.if-k-len.branch [
-        then-k-len w ↦ rw (w.len-is, w.start-is) (least_lower at.invariant.3 _ found.home (omega arith) w.if-k-len.true)
+        | then-k-len w ↦ rw (w.len-is, w.start-is) (least_lower at.invariant.3 _ found.home (omega arith) w.if-k-len.true)
         | else-k-len w ↦ rw (w.len-is, w.start-is) (least_same at.invariant.3 _ found.home w.if-k-len.false)
       ],
     )

@@ -1,8 +1,6 @@
 -- `lowest_beginning` meets its contract.
 use mathlib.Core.Path.{◌≡◌, sym, ◌∙◌}
-use mathlib.Core.Bool.{false}
 use native.Mathlib.Omega.{arith}
-use Rattle.words.specs.Tests.{◌upto◌, ◌and◌}
 use Rattle.words.proofs.Truth.{to_false, and→, →and, and_no_right, upto→, →upto, →none, none_next, none_below, lowest_found, lowest_none}
 use Rattle.graph.proofs.left.lowest_beginning.Goals as goal
 

@@ -1,6 +1,6 @@
 -- `follow` meets its contract.
 use native.Mathlib.Omega.{arith}
-use lib.ListN.{length, get_or}
+use lib.ListN.{length}
 use mathlib.Core.Path.{◌≡◌}
 use borrow.Author.Rules.{rules}
 use Rattle.graph.proofs.Turn.{at_end, at_vertex, at_rest, at_room, at_same, at_higher}

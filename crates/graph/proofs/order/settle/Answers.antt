@@ -1,5 +1,4 @@
 -- `settle` meets its contract.
-use mathlib.Core.Bool.{true, false}
 use Rattle.graph.specs.Inner.Waiting.{nobody}
 use Rattle.graph.proofs.Ready.{settled_ready, settled_waits, none_before, one_before}
 use Rattle.graph.proofs.order.settle.Goals as goal

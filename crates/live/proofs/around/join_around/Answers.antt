@@ -1,7 +1,6 @@
 -- `join_around` meets its contract.
 use mathlib.Core.Path.{sym, ◌∙◌}
 use native.Mathlib.Omega.{arith}
-use Rattle.words.proofs.Truth.{fails→, not_fails}
 use Rattle.live.proofs.AroundLaws.{joining_none, joining_more, joining_all, joining_before}
 use Rattle.live.proofs.around.join_around.Goals as goal
 

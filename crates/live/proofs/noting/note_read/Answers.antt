@@ -1,6 +1,5 @@
 -- `note_read` meets its contract.
 use Rattle.live.proofs.Notes.{noted_after, noted_before}
-use Rattle.live.proofs.noting.note_read.Reads as reads
 use Rattle.live.proofs.noting.note_read.Goals as goal
 
 pub returns-then-has_mark : goal.returns-then-has_mark

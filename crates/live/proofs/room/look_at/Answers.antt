@@ -1,6 +1,6 @@
 -- `look_at` meets its contract.
 use mathlib.Core.Path.{refl, sym, ◌∙◌}
-use Rattle.words.proofs.Truth.{not_both, fails→, not_fails→, not_fails}
+use Rattle.words.proofs.Truth.{not_both}
 use Rattle.live.proofs.room.look_at.Goals as goal
 
 pub returns-then-not-may_go : goal.returns-then-not-may_go

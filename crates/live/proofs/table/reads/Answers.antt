@@ -1,6 +1,5 @@
 -- `reads` meets its contract.
 use Rattle.live.proofs.Cells.{reads_is}
-use Rattle.live.proofs.table.reads.Reads as reads
 use Rattle.live.proofs.table.reads.Goals as goal
 
 pub returns : goal.returns

@@ -1,6 +1,6 @@
 -- `source_or` meets its contract.
 use mathlib.Core.Path.{◌≡◌, sym, ap, ◌∙◌}
-use Rattle.words.proofs.Truth.{if_true, if_false}
+use Rattle.words.proofs.Truth.{provided_true, provided_false}
 use Rattle.verdict.specs.Log.{src}
 use Rattle.plan.specs.Inner.Marks.{marked}
 use Rattle.plan.proofs.giving_back.source_or.Lts
@@ -18,7 +18,7 @@ unfolding src
 source c = c.index-s.ensures
 
 pub returns-then-is_marked : goal.returns-then-is_marked
-returns-then-is_marked c = source c.before.before ∙ sym (if_true _ _ (ap (marked _) (sym (source c.before.before)) ∙ sym c.is_marked.ensures ∙ c.if-is_marked.true))
+returns-then-is_marked c = source c.before.before ∙ sym (provided_true _ _ (ap (marked _) (sym (source c.before.before)) ∙ sym c.is_marked.ensures ∙ c.if-is_marked.true))
 
 pub returns : goal.returns
-returns c = sym (if_false _ _ (ap (marked _) (sym (source c.before.before)) ∙ sym c.is_marked.ensures ∙ c.if-is_marked.false))
+returns c = sym (provided_false _ _ (ap (marked _) (sym (source c.before.before)) ∙ sym c.is_marked.ensures ∙ c.if-is_marked.false))

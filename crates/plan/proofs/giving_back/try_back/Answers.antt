@@ -5,7 +5,7 @@ use native.Mathlib.Omega.{arith}
 use lib.ListN.{length}
 use Rattle.verdict.specs.Log.{steps, src}
 use Rattle.verdict.proofs.WellFormed.{whole_steps}
-use Rattle.words.specs.Tests.{if◌then◌else◌}
+use Rattle.words.specs.Tests.{provided◌then◌else◌}
 use Rattle.plan.specs.Inner.Marks.{marked}
 use Rattle.plan.proofs.Plans.{tried_fine, tried_cycle, tried_none, fault_inside, tried_unclean}
 use Rattle.plan.proofs.giving_back.try_back.Lts
@@ -37,4 +37,4 @@ pub returns-in-Unclean : goal.returns-in-Unclean
 returns-in-Unclean c = let log = c.args.log.now in
     let back = c.args.back in
     tried_unclean log c.requires.0 back c.args.t (inside c.before.before.before.before.before.before.before.before) c.requires.3 c.version_after-answer.ensures c.in-Unclean.is c.requires.4
-    (c.source_or.ensures ∙ ap (λ (k : ℕ). if marked back (src log k) then src log k else c.args.t) c.fault_step.ensures)
+    (c.source_or.ensures ∙ ap (λ (k : ℕ). provided marked back (src log k) then src log k else c.args.t) c.fault_step.ensures)

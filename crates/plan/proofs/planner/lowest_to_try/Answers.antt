@@ -1,11 +1,9 @@
 -- `lowest_to_try` meets its contract.
 use mathlib.Core.Path.{◌≡◌, refl, sym, ◌∙◌}
-use mathlib.Core.Bool.{false}
 use native.Mathlib.Omega.{arith}
 use Rattle.words.specs.Tests.{some}
 use Rattle.words.proofs.Truth.{none_next, lowest_found, lowest_none}
 use Rattle.plan.specs.Inner.Marks.{table}
-use Rattle.plan.specs.Inner.Planning.{can_try}
 use Rattle.plan.proofs.planner.lowest_to_try.Goals as goal
 
 pub loop-t-init : goal.loop-t-init

@@ -1,7 +1,7 @@
 -- `clear_bytes_from` meets its contract.
 use native.Mathlib.Omega.{arith}
 use mathlib.Core.Path.{refl}
-use lib.ListN.{length, length-set}
+use lib.ListN.{length-set}
 use Rattle.text.proofs.Clears.{no_zeros, one_zero, all_zeros}
 use Rattle.text.proofs.clear.clear_bytes_from.Goals as goal
 

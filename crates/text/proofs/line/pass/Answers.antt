@@ -2,7 +2,7 @@
 use native.Mathlib.Omega.{arith}
 use mathlib.Core.Path.{refl, subst, ◌∙◌}
 use mathlib.Core.List.{List}
-use Prim.Native.Nat.{ℕ, ◌-◌}
+use Prim.Native.Nat.{ℕ}
 use Rattle.text.specs.Inner.Finds.{FindsLine}
 use Rattle.text.specs.declared.line.Line.TheVariants.{At}
 use Rattle.text.proofs.Runs.{gone_nowhere, gone_on, gone_over}

@@ -1,7 +1,7 @@
 -- What the loop of `number_at` keeps, and why it ends.
 use mathlib.Core.Path.{◌≡◌}
 use mathlib.Core.List.{◌++◌}
-use Prim.Native.Nat.{◌+◌, ◌-◌, ◌≤◌}
+use Prim.Native.Nat.{◌-◌, ◌≤◌}
 use lib.ListN.{length, drop}
 use Rattle.text.specs.Decimal.{decimal}
 use Rattle.text.specs.Line.{largest}

@@ -1,7 +1,7 @@
 -- `put_word` meets its contract. At each turn the first i bytes of the word are put.
 use native.Mathlib.Omega.{arith}
 use mathlib.Core.Path.{refl}
-use lib.ListN.{length, length-set}
+use lib.ListN.{length-set}
 use Rattle.text.proofs.Puts.{puts_none, puts_more, puts_all}
 use Rattle.text.proofs.put.put_word.Goals as goal
 

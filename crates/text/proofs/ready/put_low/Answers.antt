@@ -2,7 +2,7 @@
 use native.Mathlib.Omega.{arith}
 use mathlib.Core.Path.{◌≡◌, refl, ap, ◌∙◌}
 use Prim.Native.Nat.{ℕ, ◌+◌, ◌/◌, ◌%◌}
-use lib.ListN.{length, set, length-set}
+use lib.ListN.{set, length-set}
 use Rattle.text.specs.Inner.Put.{put_at}
 use Rattle.text.specs.Inner.Ready.{low_bytes}
 use Rattle.text.proofs.Readies.{rest_first, rest_next, low_none, low_put}

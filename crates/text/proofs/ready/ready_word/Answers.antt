@@ -2,7 +2,7 @@
 use mathlib.Core.Path.{◌≡◌, refl, sym, subst}
 use mathlib.Core.List.{List, [], ◌∷◌, ◌++◌}
 use Prim.Native.Nat.{ℕ}
-use Rattle.words.specs.Tests.{◌is◌, if◌then◌else◌}
+use Rattle.words.specs.Tests.{◌is◌, provided◌then◌else◌}
 use Rattle.text.specs.Bytes.{bytes, blank}
 use Rattle.text.specs.Line.{word}
 use Rattle.text.specs.Inner.Ready.{low_bytes, ReadyWord}
@@ -19,22 +19,22 @@ of_kind : (r : ℕ) {j k : ℕ} → k ≡ j → ReadyWord r (word j ++ blank ∷
 of_kind r e = subst (λ (u : ℕ). ReadyWord r (word u ++ blank ∷ [])) (sym e)
 
 pub returns-in-1 : goal.returns-in-1
-unfolding word bytes low_bytes ◌is◌ if◌then◌else◌
+unfolding word bytes low_bytes ◌is◌ provided◌then◌else◌
 returns-in-1 c = of_kind _ c.in-1.is (record { says = refl; counts = refl })
 
 pub returns-in-2 : goal.returns-in-2
-unfolding word bytes low_bytes ◌is◌ if◌then◌else◌
+unfolding word bytes low_bytes ◌is◌ provided◌then◌else◌
 returns-in-2 c = of_kind _ c.in-2.is (record { says = refl; counts = refl })
 
 pub returns-in-3 : goal.returns-in-3
-unfolding word bytes low_bytes ◌is◌ if◌then◌else◌
+unfolding word bytes low_bytes ◌is◌ provided◌then◌else◌
 returns-in-3 c = of_kind _ c.in-3.is (record { says = refl; counts = refl })
 
 pub returns-in-4 : goal.returns-in-4
-unfolding word bytes low_bytes ◌is◌ if◌then◌else◌
+unfolding word bytes low_bytes ◌is◌ provided◌then◌else◌
 returns-in-4 c = of_kind _ c.in-4.is (record { says = refl; counts = refl })
 
 pub returns-in_default : goal.returns-in_default
-unfolding word bytes low_bytes ◌is◌ if◌then◌else◌
+unfolding word bytes low_bytes ◌is◌ provided◌then◌else◌
 returns-in_default c =
     as_word _ (other_word c.args.k (λ e. omega (arith, e)) (λ e. omega (arith, e)) (λ e. omega (arith, e)) (λ e. omega (arith, e))) (record { says = refl; counts = refl })

@@ -2,7 +2,7 @@
 use native.Mathlib.Omega.{arith}
 use mathlib.Core.Path.{refl, subst, ◌∙◌}
 use mathlib.Core.List.{List}
-use Prim.Native.Nat.{ℕ, ◌+◌, ◌-◌, ◌*◌, ◌≤◌, ◌<◌}
+use Prim.Native.Nat.{ℕ, ◌+◌, ◌*◌, ◌≤◌, ◌<◌}
 use lib.ListN.{length, get_or}
 use lib.Seq.{take_all}
 use Rattle.verdict.specs.Reason.{Entry}
@@ -87,8 +87,7 @@ loop-i-smaller c = omega arith
 
 pub loop-i-preserved : goal.loop-i-preserved
 loop-i-preserved c =
-    let p = c.put_member-place in
-    (
+    let p = c.put_member-place in (
       omega arith,
       p.auto.out ∙ c.loop-i.invariant.1,
       member_put (all c.before.before.before.before.before.before.before.before.before) c.args.out.now c.args.at c.requires.1 (i c.before.before.before.before.before.before.before.before.before) (inside c.before.before.before.before.before.before.before.before.before (omega arith)) (one c.before.before.before.before.before.before.before.before.before) (entry_at c.args.n (list c.before.before.before.before.before.before.before.before.before) (i c.before.before.before.before.before.before.before.before.before) (omega arith) (one c.before.before.before.before.before.before.before.before.before)) c.loop-i.invariant.2 p.ensures,

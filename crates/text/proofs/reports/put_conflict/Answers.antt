@@ -4,9 +4,6 @@ use Rattle.text.specs.Report.{ConflictLine, conflict_line}
 use Rattle.text.specs.Inner.Put.{most_long}
 use Rattle.text.proofs.Tells.{line_fits, line_puts}
 use Rattle.text.proofs.Room.{conflict_fits}
-use Rattle.text.proofs.reports.put_conflict.Lts
-use Rattle.text.proofs.reports.put_conflict.Tie as tie
-use Rattle.text.proofs.reports.put_conflict.Reads
 use Rattle.text.proofs.reports.put_conflict.Goals as goal
 
 -- places on the way, by the names that the toolchain gives them

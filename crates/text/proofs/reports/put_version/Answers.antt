@@ -4,9 +4,6 @@ use Rattle.text.specs.Report.{VersionLine, version_line}
 use Rattle.text.specs.Inner.Put.{most_long}
 use Rattle.text.proofs.Tells.{line_fits, line_puts}
 use Rattle.text.proofs.Room.{version_fits}
-use Rattle.text.proofs.reports.put_version.Lts
-use Rattle.text.proofs.reports.put_version.Tie as tie
-use Rattle.text.proofs.reports.put_version.Reads
 use Rattle.text.proofs.reports.put_version.Goals as goal
 
 -- places on the way, by the names that the toolchain gives them

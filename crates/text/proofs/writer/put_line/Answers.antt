@@ -104,12 +104,11 @@ overflow_cast-log-3 c =
 
 pub put_small-requires : goal.put_small-requires
 unfolding src bytes
-put_small-requires c =
-    (
-      omega (arith, room c.before.before.before.before.before.before.before.before.before.before.before.before.before.before.before.before.before.before.before.before.before.before.before.before.before.before, long₄ c.before.before.before.before.before.before.before.before.before.before.before.before.before.before.before.before.before.before.before.before.before.before.before.before.before.before, (put₁ c.before.before.before.before.before.before.before.before.before.before.before.before.before.before.before.before.before.before.before.before.before).reaches, (put₁ c.before.before.before.before.before.before.before.before.before.before.before.before.before.before.before.before.before.before.before.before.before).size, (put₂ c.before.before.before.before.before.before.before.before.before.before.before.before.before.before).reaches, (put₂ c.before.before.before.before.before.before.before.before.before.before.before.before.before.before).size, (put₃ c.before.before.before.before.before.before.before).reaches, (put₃ c.before.before.before.before.before.before.before).size),
-      c.requires.1.2,
-      c.requires.2,
-    )
+put_small-requires c = (
+  omega (arith, room c.before.before.before.before.before.before.before.before.before.before.before.before.before.before.before.before.before.before.before.before.before.before.before.before.before.before, long₄ c.before.before.before.before.before.before.before.before.before.before.before.before.before.before.before.before.before.before.before.before.before.before.before.before.before.before, (put₁ c.before.before.before.before.before.before.before.before.before.before.before.before.before.before.before.before.before.before.before.before.before).reaches, (put₁ c.before.before.before.before.before.before.before.before.before.before.before.before.before.before.before.before.before.before.before.before.before).size, (put₂ c.before.before.before.before.before.before.before.before.before.before.before.before.before.before).reaches, (put₂ c.before.before.before.before.before.before.before.before.before.before.before.before.before.before).size, (put₃ c.before.before.before.before.before.before.before).reaches, (put₃ c.before.before.before.before.before.before.before).size),
+  c.requires.1.2,
+  c.requires.2,
+)
 
 pub returns : goal.returns
 unfolding line_of line src bytes

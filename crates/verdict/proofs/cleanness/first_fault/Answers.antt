@@ -6,7 +6,7 @@ use mathlib.Core.List.{List}
 use Prim.Native.Nat.{ℕ, suc, ◌-◌, ◌≤◌, ◌<◌}
 use native.Mathlib.Omega.{arith}
 use Rattle.words.specs.Tests.{◌upto◌, ◌and◌, lowest}
-use Rattle.words.proofs.Truth.{→below, if_true}
+use Rattle.words.proofs.Truth.{→below, provided_true}
 use Rattle.words.proofs.From.{from_here, from_next, from_end, from_first}
 use Rattle.verdict.specs.Limits.{transactions, objects}
 use Rattle.verdict.specs.Log.{steps, kind, tx, obj}
@@ -107,7 +107,7 @@ pub loop-i-preserved-then-step-eq-WRITE : goal.loop-i-preserved-then-step-eq-WRI
 loop-i-preserved-then-step-eq-WRITE c =
     let object-is = c.index.ensures ∙ c.step_at-step.ensures.obj_is in (
       omega arith,
-      rw (c.with_mark.ensures, place_is c.before.before.before, object-is, if_true _ _ (→below (object_in c.before.before.before))) (later_more _ _ (behind c.before.before.before.before.before) (in_log c.before.before.before.before.before) (is_write c.before.before.before) (tx_in c.before.before.before)),
+      rw (c.with_mark.ensures, place_is c.before.before.before, object-is, provided_true _ _ (→below (object_in c.before.before.before))) (later_more _ _ (behind c.before.before.before.before.before) (in_log c.before.before.before.before.before) (is_write c.before.before.before) (tx_in c.before.before.before)),
       fault_stays c.before.before.before.before.before (not_faulty _ _ (other_kind _ _ (λ (e : kind (the_log c.before.before.before.before.before) (i c.before.before.before.before.before) ≡ 2). omega (arith, is_write c.before.before.before)))),
     )
 

@@ -1,6 +1,6 @@
 -- What the loop of `first_fault` keeps, and why it ends.
 use mathlib.Core.Path.{◌≡◌}
-use Prim.Native.Nat.{◌-◌, ◌≤◌}
+use Prim.Native.Nat.{◌≤◌}
 use Rattle.words.specs.Tests.{◌upto◌, ◌and◌, lowest}
 use Rattle.verdict.specs.Log.{steps}
 use Rattle.verdict.specs.Clean.{source_fault}

@@ -1,8 +1,7 @@
 -- `conflict_reasons` meets its contract.
 use mathlib.Core.Path.{◌≡◌, refl, sym, ap₂, ◌∙◌}
-use mathlib.Core.Logic.{⊎_elim}
 use mathlib.Core.List.{List}
-use Prim.Native.Nat.{ℕ, ◌-◌, ◌/◌, ◌≤◌, ◌<◌}
+use Prim.Native.Nat.{ℕ, ◌/◌, ◌≤◌, ◌<◌}
 use native.Mathlib.Omega.{arith}
 use native.Mathlib.Numerals.{add-one}
 use lib.ListN.{length}
@@ -101,15 +100,15 @@ loop-j-preserved c =
       refl,
       omega arith,
       elim c.if-takes_part.branch [
-        then-takes_part w ↦ rw (w.best-is, add-one c.loop-j.j) (ends_offered (the_log c.before.before.before) stands q.3 c.loop-j.j (in_range c.before.before.before).1 known.3 (object c.before.before.before)
-          (w.index.ensures ∙ step.tx_is) step.kind_is step.obj_is (w.offer_earlier.ensures _ _ q.2 known.2))
+        | then-takes_part w ↦ rw (w.best-is, add-one c.loop-j.j) (ends_offered (the_log c.before.before.before) stands q.3 c.loop-j.j (in_range c.before.before.before).1 known.3 (object c.before.before.before)
+            (w.index.ensures ∙ step.tx_is) step.kind_is step.obj_is (w.offer_earlier.ensures _ _ q.2 known.2))
         | else-takes_part w ↦ rw (w.best-is, add-one c.loop-j.j) (ends_nothing (the_log c.before.before.before) stands q.3 c.loop-j.j (in_range c.before.before.before).1 q.2
-          (sym (told c.before.before) ∙ w.if-takes_part.false) known.2)
+            (sym (told c.before.before) ∙ w.if-takes_part.false) known.2)
       ],
       elim c.if-takes_part.branch [
-        then-takes_part w ↦ rw (w.touched-is, add-one c.loop-j.j) (touched_more _ _ (sym (told c.before.before) ∙ w.if-takes_part.true) (in_range c.before.before.before) known.3
-          (object c.before.before.before) (w.index-then-takes_part.ensures ∙ step.tx_is) w.with_vertex-one.ensures
-          (w.touched_row.ensures ∙ ap₂ touched_row step.kind_is step.obj_is) w.join.ensures)
+        | then-takes_part w ↦ rw (w.touched-is, add-one c.loop-j.j) (touched_more _ _ (sym (told c.before.before) ∙ w.if-takes_part.true) (in_range c.before.before.before) known.3
+            (object c.before.before.before) (w.index-then-takes_part.ensures ∙ step.tx_is) w.with_vertex-one.ensures
+            (w.touched_row.ensures ∙ ap₂ touched_row step.kind_is step.obj_is) w.join.ensures)
         | else-takes_part w ↦ rw (w.touched-is, add-one c.loop-j.j) (touches_none _ (open_step _ _ (sym (told c.before.before) ∙ w.if-takes_part.false)) known.3)
       ],
     )

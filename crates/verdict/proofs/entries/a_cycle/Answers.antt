@@ -1,7 +1,7 @@
 -- `a_cycle` meets its contract.
 use mathlib.Core.Path.{◌≡◌, refl, sym, ap, ap₂, ◌∙◌}
 use mathlib.Core.List.{List}
-use Prim.Native.Nat.{ℕ, ◌-◌, ◌%◌, ◌/◌, ◌≤◌}
+use Prim.Native.Nat.{ℕ, ◌%◌, ◌/◌, ◌≤◌}
 use native.Mathlib.Omega.{arith}
 use lib.ListN.{length, get_or, length-map}
 use borrow.Author.Rules.{rules}

@@ -3,7 +3,6 @@ use mathlib.Core.Path.{◌≡◌}
 use Prim.Native.Nat.{◌-◌, ◌≤◌}
 use lib.ListN.{length}
 use Rattle.verdict.specs.Limits.{witness_buffer}
-use Rattle.verdict.specs.Outcome.{members}
 use Rattle.verdict.specs.Inner.Reasons.{entry_of}
 use Rattle.verdict.proofs.Threes.{first_entries}
 use Rattle.verdict.proofs.entries.a_cycle.Given as goal

@@ -44,8 +44,8 @@ loop-i-preserved c =
       inv.1,
       ap length c.put_entry.ensures ∙ put_length c.loop-i.list c.loop-i.i t 0 0 ∙ inv.2,
       c.put_entry.ensures
-      ∙ ap (λ (l : List ℕ). entry_put l c.loop-i.i t 0 0) inv.3
-      ∙ member_more alone given c.loop-i.i (omega arith) inv.1 (alone t) refl,
+          ∙ ap (λ (l : List ℕ). entry_put l c.loop-i.i t 0 0) inv.3
+          ∙ member_more alone given c.loop-i.i (omega arith) inv.1 (alone t) refl,
     )
 
 pub returns : goal.returns

@@ -1,9 +1,8 @@
 -- `first_own` meets its contract.
 use mathlib.Core.Path.{◌≡◌, refl, sym, ◌∙◌}
-use mathlib.Core.Bool.{false}
-use Prim.Native.Nat.{ℕ, ◌-◌}
+use Prim.Native.Nat.{ℕ}
 use native.Mathlib.Omega.{arith}
-use lib.ListN.{length, replicate, length-set, length-replicate}
+use lib.ListN.{replicate, length-set, length-replicate}
 use Rattle.words.specs.Tests.{some}
 use Rattle.words.proofs.Truth.{lowest_none, lowest_found, none_next}
 use Rattle.verdict.specs.Log.{steps}

@@ -3,7 +3,7 @@ use mathlib.Core.Path.{◌≡◌, sym, ◌∙◌}
 use Prim.Native.Nat.{◌<◌}
 use native.Mathlib.Omega.{arith}
 use lib.ListN.{length-set}
-use Rattle.words.proofs.Truth.{→below, if_true}
+use Rattle.words.proofs.Truth.{→below, provided_true}
 use Rattle.verdict.specs.Log.{tx}
 use Rattle.verdict.proofs.WellFormed.{tx_within, object_within}
 use Rattle.verdict.proofs.WriteMarks.{write_skip, write_more}
@@ -33,7 +33,7 @@ returns-then-step-eq-WRITE c =
     let told = c.step_at-step.ensures in
     let object-is = c.index.ensures ∙ told.obj_is in
     let within = c.requires.1 in (
-      rw (c.with_mark.ensures, place_is c.before.before.before.before.before, object-is, if_true _ _ (→below (object_within _ _ within)))
+      rw (c.with_mark.ensures, place_is c.before.before.before.before.before, object-is, provided_true _ _ (→below (object_within _ _ within)))
           (write_more _ _ c.requires.2 (sym told.kind_is ∙ c.if-step-eq-WRITE.true) (omega (arith, c.requires.3, (tx_within _ _ within).1))),
       length-set c.args.versions.now _ _ ∙ c.requires.3,
     )

@@ -1,6 +1,6 @@
 -- `before_each` meets its contract.
 use mathlib.Core.Path.{refl}
-use Prim.Native.Nat.{◌-◌, ◌≤◌}
+use Prim.Native.Nat.{◌≤◌}
 use native.Mathlib.Omega.{arith}
 use Rattle.verdict.specs.Limits.{transactions}
 use Rattle.verdict.proofs.Standing.{stood_none, stood_more, stood_all}

@@ -1,7 +1,6 @@
 -- `walk_steps` meets its contract.
 use mathlib.Core.Path.{◌≡◌, refl, sym, ◌∙◌}
-use mathlib.Core.Logic.{⊎_elim}
-use Prim.Native.Nat.{◌+◌, ◌-◌}
+use Prim.Native.Nat.{◌+◌}
 use native.Mathlib.Omega.{arith}
 use Rattle.words.specs.Tests.{some}
 use Rattle.words.proofs.Truth.{→or_right, or_no, some_next}
@@ -24,7 +23,7 @@ some_missed c =
     let told = c.take_step-taken.ensures.told c.if-taken-ne0.false in
     let next = some_next c.loop-i.i (misses c.args.log.now) in
     elim c.if-taken.branch [
-      then-taken w ↦ w.missed-is ∙ sym (next ∙ →or_right _ (sym told ∙ w.if-taken.true))
+      | then-taken w ↦ w.missed-is ∙ sym (next ∙ →or_right _ (sym told ∙ w.if-taken.true))
       | else-taken w ↦ w.missed-is ∙ c.loop-i.invariant.5 ∙ sym (next ∙ or_no _ (sym told ∙ w.if-taken.false))
     ]
 

@@ -106,7 +106,7 @@ returns-then-place t c =
     let follows = sym c.may_follow.ensures ∙ c.if-may_follow.true in
     let wide : length c.args.placed ≡ most_searched = search rules in (
       search_found q.0 q.1 _ free follows tried c.lowest_mark-i.ensures
-      (rw (longer c.args.placed q.0 q.1 wide free follows c.with_placed-next.ensures, c.if-place.true) at c.place.ensures.0),
+          (rw (longer c.args.placed q.0 q.1 wide free follows c.with_placed-next.ensures, c.if-place.true) at c.place.ensures.0),
       c.place.ensures.1,
     )
 
@@ -125,14 +125,14 @@ loop-run-preserved t c =
       rw c.without_mark-rest.ensures
           (tried_more _ tried _
           (elim c.if-may_follow.branch [
-            then-may_follow+else-place w ↦
-              let follows = sym c.may_follow.ensures ∙ w.if-may_follow.true in
-              search_missed q.0 q.1 _ free follows
-              (rw (longer c.args.placed q.0 q.1 wide free follows w.with_placed-next.ensures, w.if-place.false) at w.place.ensures.0)
+            | then-may_follow+else-place w ↦
+                let follows = sym c.may_follow.ensures ∙ w.if-may_follow.true in
+                search_missed q.0 q.1 _ free follows
+                (rw (longer c.args.placed q.0 q.1 wide free follows w.with_placed-next.ensures, w.if-place.false) at w.place.ensures.0)
             | else-may_follow w ↦ not_next q.0 q.1 _ free (sym c.may_follow.ensures ∙ w.if-may_follow.false)
           ])),
       elim c.if-may_follow.branch [
-        then-may_follow+else-place w ↦ rw w.order-is w.place.ensures.1
+        | then-may_follow+else-place w ↦ rw w.order-is w.place.ensures.1
         | else-may_follow w ↦ rw w.order-is c.loop-run.invariant.1
       ],
     )

@@ -42,9 +42,9 @@ loop-t-preserved c =
       omega arith,
       omega arith,
       elim c.if-takes_part.branch [
-        then-takes_part w ↦
-          let yes = says ∙ w.if-takes_part.true in
-          rw (w.list-is, w.count-is) (listed_more _ well inv (listed_room _ well inv c.requires.2 (omega arith) yes) yes)
+        | then-takes_part w ↦
+            let yes = says ∙ w.if-takes_part.true in
+            rw (w.list-is, w.count-is) (listed_more _ well inv (listed_room _ well inv c.requires.2 (omega arith) yes) yes)
         | else-takes_part w ↦ rw (w.list-is, w.count-is) (listed_same _ well inv (says ∙ w.if-takes_part.false))
       ],
     )

@@ -70,12 +70,12 @@ loop-i-preserved c =
       loop.invariant.2,
       loop.invariant.3,
       elim c.if-judged_other.branch [
-        then-judged_other w ↦
-          let judged = says ∙ w.if-judged_other.true in
-          let h = within _ loop.i loop.invariant.2 (omega arith) judged in
-          let step = w.step_at-step.ensures in
-          rw (w.table-is, w.with_source.ensures, w.index-row.ensures ∙ step.tx_is, w.index-column.ensures ∙ step.obj_is, step.src_is)
-          (needed_more _ loop.i loop.invariant.4 judged h.0 h.1)
+        | then-judged_other w ↦
+            let judged = says ∙ w.if-judged_other.true in
+            let h = within _ loop.i loop.invariant.2 (omega arith) judged in
+            let step = w.step_at-step.ensures in
+            rw (w.table-is, w.with_source.ensures, w.index-row.ensures ∙ step.tx_is, w.index-column.ensures ∙ step.obj_is, step.src_is)
+            (needed_more _ loop.i loop.invariant.4 judged h.0 h.1)
         | else-judged_other w ↦ rw w.table-is (needed_same _ loop.i loop.invariant.4 (says ∙ w.if-judged_other.false))
       ],
     )

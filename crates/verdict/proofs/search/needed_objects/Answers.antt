@@ -34,8 +34,8 @@ loop-x-preserved c =
       inv.1,
       inv.2,
       elim c.if-need-row-ne0.branch [
-        then-need-row-ne0 w ↦
-          rw (w.marks-is, w.with_mark-marks.ensures) (needed_some_of inv.3 (omega arith) (rw inv.1 at w.if-need-row-ne0.true))
+        | then-need-row-ne0 w ↦
+            rw (w.marks-is, w.with_mark-marks.ensures) (needed_some_of inv.3 (omega arith) (rw inv.1 at w.if-need-row-ne0.true))
         | else-need-row-ne0 w ↦ rw w.marks-is (needed_none_of inv.3 (rw inv.1 at w.if-need-row-ne0.false))
       ],
     )

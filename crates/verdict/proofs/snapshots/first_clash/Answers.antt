@@ -1,10 +1,8 @@
 -- `first_clash` meets its contract.
 use mathlib.Core.Path.{◌≡◌, refl, sym, ◌∙◌}
 use mathlib.Core.Bool.{Bool, false}
-use mathlib.Core.Logic.{⊎_elim}
-use Prim.Native.Nat.{◌-◌, ◌<◌}
+use Prim.Native.Nat.{◌<◌}
 use native.Mathlib.Omega.{arith}
-use borrow.Author.Rules.{rules}
 use Rattle.words.specs.Tests.{some}
 use Rattle.words.proofs.Truth.{→some, →none, none_next}
 use Rattle.bits.specs.Word.{marked}
@@ -48,7 +46,7 @@ none_clash : (c : Joined-t-ne0) → wrong_commit transactions c.args.log.now c.s
 unfolding wrong_commit
 none_clash c =
     elim c.if-t-ne0.branch [
-      then-t-ne0+else-loop-p-test w ↦ let e : w.loop-p.p ≡ 129 = omega (arith, w.loop-p.invariant.0, w.loop-p-test.false) in rw e at w.loop-p.invariant.1
+      | then-t-ne0+else-loop-p-test w ↦ let e : w.loop-p.p ≡ 129 = omega (arith, w.loop-p.invariant.0, w.loop-p-test.false) in rw e at w.loop-p.invariant.1
       | else-t-ne0 w ↦ →none _ (λ p h. c.note_commit-t.ensures.nobody w.if-t-ne0.false p)
     ]
 
@@ -94,7 +92,7 @@ loop-p-smaller c = omega arith
 pub loop-p-preserved : goal.loop-p-preserved
 loop-p-preserved c =
     let over : some 64 (marked c.clashes-both.result) ≡ false = elim c.if-both-ne0.branch [
-      then-both-ne0+else-loop-x-test w ↦ let e : w.loop-x.x ≡ 64 = omega (arith, w.loop-x.invariant.0, w.loop-x-test.false) in rw e at w.loop-x.invariant.1
+      | then-both-ne0+else-loop-x-test w ↦ let e : w.loop-x.x ≡ 64 = omega (arith, w.loop-x.invariant.0, w.loop-x-test.false) in rw e at w.loop-x.invariant.1
       | else-both-ne0 w ↦ →none _ (λ x _. rw w.if-both-ne0.false (no_mark x))
     ] in
     (omega arith, none_next _ _ c.loop-p.invariant.1 (clash_is c.before.before over))

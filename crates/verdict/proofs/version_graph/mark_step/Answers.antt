@@ -4,7 +4,7 @@ use mathlib.Core.Bool.{true}
 use mathlib.Core.List.{List}
 use Prim.Native.Nat.{ℕ, ◌<◌}
 use Rattle.verdict.specs.Limits.{transactions, objects}
-use Rattle.verdict.specs.Log.{steps, kind, tx, obj, committed}
+use Rattle.verdict.specs.Log.{steps, kind, tx, committed}
 use Rattle.verdict.proofs.WellFormed.{Well, well_formed, object_within, ranges}
 use Rattle.verdict.proofs.Matrices.{told_committed}
 use Rattle.verdict.proofs.NextWriters.{next_read, next_write}

@@ -33,14 +33,14 @@ loop-i-preserved c =
       refl,
       omega arith,
       elim c.if-step-eq-COMMIT.branch [
-        then-step-eq-COMMIT w ↦ omega (arith, w.total-is)
+        | then-step-eq-COMMIT w ↦ omega (arith, w.total-is)
         | else-step-eq-COMMIT w ↦ omega (arith, w.total-is)
       ],
       elim c.if-step-eq-COMMIT.branch [
-        then-step-eq-COMMIT w ↦
-          w.total-is ∙ add-one _ ∙ ap suc inv.3 ∙ sym (count_yes _ _ (→is (sym step.kind_is ∙ w.if-step-eq-COMMIT.true)))
+        | then-step-eq-COMMIT w ↦
+            w.total-is ∙ add-one _ ∙ ap suc inv.3 ∙ sym (count_yes _ _ (→is (sym step.kind_is ∙ w.if-step-eq-COMMIT.true)))
         | else-step-eq-COMMIT w ↦
-          w.total-is ∙ inv.3 ∙ sym (count_no _ _ (→isnt (λ e. w.if-step-eq-COMMIT.false (step.kind_is ∙ e))))
+            w.total-is ∙ inv.3 ∙ sym (count_no _ _ (→isnt (λ e. w.if-step-eq-COMMIT.false (step.kind_is ∙ e))))
       ],
     )
 
