@@ -9,7 +9,8 @@ use verdict::Transaction;
 fn marked(marks: &[u8; Transaction::TABLE], t: u16) -> bool
     ensures { result ≡ Kept·marked marks.now t }
 {
-    if Transaction::LIMIT < t {
+    let beyond = Transaction::LIMIT < t;
+    if beyond {
         return false;
     }
     marks[t as usize] != 0
@@ -38,7 +39,8 @@ fn keep_step(
     requires { (4 * i + 4 ≤ length log.now) × (n + 4 ≤ length kept.old) }
     ensures { (result ≤ n + 4) × (take result kept.new ≡ take n kept.old ++ kept_step marks.now log.now i) }
 {
-    if !marked(marks, log[4 * i + 1]) {
+    let keeps = marked(marks, log[4 * i + 1]);
+    if !keeps {
         return n;
     }
     copy_step(log, i, kept, n);
