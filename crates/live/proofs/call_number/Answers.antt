@@ -1,4 +1,5 @@
 -- `call_number` meets its contract.
+use native.Mathlib.Omega.{arith}
 use Rattle.live.proofs.Calling.{number_one, wrong_state, wrong_opened, wrong_rows, wrong_marks, wrong_edges, wrong_answers, no_number}
 use Rattle.live.proofs.call_number.Goals as goal
 
@@ -6,7 +7,7 @@ pub returns-then-part-ne0 : goal.returns-then-part-ne0
 returns-then-part-ne0 c = number_one _ _ _ c.if-part-ne0.true
 
 pub returns-then-state-ne-STATE : goal.returns-then-state-ne-STATE
-returns-then-state-ne-STATE c = wrong_state _ _ _ c.if-part-ne0.false c.if-state-ne-STATE.true
+returns-then-state-ne-STATE c = wrong_state _ _ _ (omega arith) c.if-state-ne-STATE.true
 
 pub returns-then-opened-ne-OPENED : goal.returns-then-opened-ne-OPENED
 returns-then-opened-ne-OPENED c = wrong_opened _ _ _ c.if-part-ne0.false c.if-state-ne-STATE.false c.if-opened-ne-OPENED.true
