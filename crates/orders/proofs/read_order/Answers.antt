@@ -3,7 +3,7 @@ use mathlib.Core.Path.{◌≡◌, refl, sym, ap, ◌∙◌}
 use mathlib.Core.List.{List}
 use Prim.Native.Nat.{ℕ, ◌*◌}
 use native.Mathlib.Omega.{arith}
-use lib.ListN.{length, get_or, set, take, length-set}
+use lib.ListN.{get_or, set, take, length-set}
 use lib.Seq.{take_all}
 use Rattle.words.specs.Lists.{zeros, entries}
 use Rattle.verdict.specs.Limits.{order_entries}

@@ -1,6 +1,5 @@
 -- What the loop of `read_order` keeps: the first i members are read.
 use mathlib.Core.Path.{◌≡◌}
-use Prim.Native.Nat.{◌*◌, ◌≤◌}
 use lib.ListN.{length, take}
 use Rattle.words.specs.Lists.{entries}
 use Rattle.verdict.specs.Limits.{order_entries}

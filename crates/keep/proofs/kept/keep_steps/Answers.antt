@@ -3,7 +3,6 @@ use native.Mathlib.Omega.{arith}
 use mathlib.Core.Path.{◌≡◌, refl, sym, ap, ◌∙◌}
 use mathlib.Core.List.{List, ◌++◌}
 use Prim.Native.Nat.{ℕ}
-use lib.ListN.{length, take}
 use Rattle.verdict.specs.Log.{steps}
 use Rattle.keep.specs.Kept.{kept_step, kept as Kept-kept}
 use Rattle.keep.proofs.Keeping.{kept_more}
