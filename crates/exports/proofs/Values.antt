@@ -9,8 +9,8 @@ use Rattle.verdict.specs.Refusal.{log_refusal}
 use Rattle.verdict.specs.Snapshot.{snapshot_verdict}
 use Rattle.verdict.specs.Outcome.{Outcome, order, cycle, none, unclean, said}
 use Rattle.verdict.specs.Call.{Call, turned_away, answered, said_judged, CleanCall, SnapshotCall, WitnessCall, ConflictCall, VersionCall, ExactCall, NextCall}
-use Rattle.verdict.specs.declared.answers.Checked.{Checked}
-use Rattle.verdict.specs.declared.answers.Checked.TheVariants.{Passed, Refused}
+use Rattle.verdict.specs.Answers.{Checked}
+use Rattle.verdict.specs.Answers.{Passed, Refused}
 use Rattle.verdict.specs.declared.answers.Fault.{Fault}
 use Rattle.verdict.specs.declared.answers.Fault.TheVariants.{Own, Aborted, Unfinal}
 use Rattle.verdict.specs.declared.answers.Cleanness.{Cleanness}

@@ -11,7 +11,7 @@ use Rattle.words.specs.Lists.{zeros}
 use Rattle.words.proofs.Truth.{to_false, not_both, and_no_left, or→, →not_upto, provided_false}
 use Rattle.graph.specs.Matrix.{in_row}
 use Rattle.graph.proofs.RowLaws.{no_rows}
-use Rattle.verdict.specs.declared.answers.Checked.TheVariants.{Refused}
+use Rattle.verdict.specs.Answers.{Refused}
 use Rattle.verdict.proofs.WellFormed.{refused≢passed}
 use Rattle.verdict.specs.Log.{steps, begun, committed}
 use Rattle.live.specs.Answers.{Said, answer_number, LiveAnswer, Accepted}

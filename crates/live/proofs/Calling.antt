@@ -8,7 +8,7 @@ use native.Mathlib.Omega.{arith}
 use lib.ListN.{length, get_or, set}
 use Rattle.words.specs.Tests.{◌is◌, ◌upto◌, fails, provided◌then◌else◌}
 use Rattle.words.proofs.Truth.{decide, not_fails→, →fails, →not_fails, is→, →is, →isnt, upto→, →upto, provided_true, provided_false}
-use Rattle.verdict.specs.declared.answers.Checked.TheVariants.{Passed, Refused}
+use Rattle.verdict.specs.Answers.{Passed, Refused}
 use Rattle.verdict.specs.Refusal.{◌at◌when◌}
 use Rattle.verdict.proofs.Bounds.{Within, within_when, within_else}
 use Rattle.verdict.proofs.Refused.{when_yes, when_no, first_yes, first_no}

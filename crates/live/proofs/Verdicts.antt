@@ -13,7 +13,7 @@ use Rattle.graph.specs.Shows as graph
 use Rattle.graph.specs.Shows.{Shows}
 use Rattle.graph.proofs.Greedy.{shows_some}
 use Rattle.verdict.specs.Log.{steps, kind, tx, obj, src, reads, writes, ended, wrote, committed, begin_step, commit_step}
-use Rattle.verdict.specs.declared.answers.Checked.TheVariants.{Passed, Refused}
+use Rattle.verdict.specs.Answers.{Passed, Refused}
 use Rattle.verdict.specs.declared.answers.Cleanness.{Cleanness}
 use Rattle.verdict.specs.declared.answers.Snapshot.{Snapshot}
 use Rattle.verdict.specs.declared.answers.Snapshot.TheVariants.{Read, Write}

@@ -1,8 +1,8 @@
 -- What a call of the live judge answers, and what it leaves in the lent buffers.
 use Rattle.std.specs.Prelude.{◌≡◌, List, map, ℕ, ◌/◌, ◌%◌, length, get_or}
 use Rattle.words.specs.Tests.{◌is◌, fails}
-use Rattle.verdict.specs.declared.answers.Checked.{Checked}
-use Rattle.verdict.specs.declared.answers.Checked.TheVariants.{Passed, Refused}
+use Rattle.verdict.specs.Answers.{Checked}
+use Rattle.verdict.specs.Answers.{Passed, Refused}
 use Rattle.verdict.specs.Refusal.{◌at◌when◌, ◌else_try◌}
 use Rattle.live.specs.Answers.{answer_number, LiveAnswer, Accepted}
 use Rattle.live.specs.SoFar.{numbers}

@@ -12,7 +12,7 @@ use Rattle.verdict.specs.Log.{steps, kind, tx, obj, src, committed}
 use Rattle.verdict.specs.Clean.{judged, judged_other}
 use Rattle.verdict.specs.Replay.{reads_right, writers_in_order, explains_loosely, explains}
 use Rattle.verdict.specs.Refusal.{log_refusal}
-use Rattle.verdict.specs.declared.answers.Checked.TheVariants.{Passed}
+use Rattle.verdict.specs.Answers.{Passed}
 use Rattle.words.proofs.Truth.{not_both, and→, →and, →implies, →every, and_no_right}
 use Rattle.verdict.proofs.WellFormed.{well_formed, whole_steps}
 use Rattle.verdict.proofs.Serial.{→serial}

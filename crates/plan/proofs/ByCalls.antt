@@ -13,7 +13,7 @@ use Rattle.verdict.specs.Log.{committed}
 use Rattle.verdict.specs.Next.{up_to_zero, from_zero}
 use Rattle.verdict.specs.Refusal.{log_refusal}
 use Rattle.verdict.specs.Call.{turned_away, answered}
-use Rattle.verdict.specs.declared.answers.Checked.TheVariants.{Passed}
+use Rattle.verdict.specs.Answers.{Passed}
 use Rattle.words.proofs.Truth.{not_both, to_false, same_test, and→, →and, →is, not_fails→, →not_fails}
 use Rattle.words.proofs.Places.{member_head, all→, →all}
 use Rattle.verdict.proofs.WellFormed.{well_formed, else_try→, when→, refused≢passed}

@@ -7,8 +7,8 @@ use Rattle.words.specs.Lists.{zeros}
 use Rattle.verdict.specs.Limits.{transactions}
 use Rattle.verdict.specs.Call.{answered}
 use Rattle.verdict.specs.Refusal.{◌else_try◌, log_refusal, work_refusal}
-use Rattle.verdict.specs.declared.answers.Checked.{Checked}
-use Rattle.verdict.specs.declared.answers.Checked.TheVariants.{Passed, Refused}
+use Rattle.verdict.specs.Answers.{Checked}
+use Rattle.verdict.specs.Answers.{Passed, Refused}
 use Rattle.words.proofs.Truth.{is→, not_fails→}
 use Rattle.verdict.proofs.WellFormed.{else_try→, when→, refused≢passed}
 use Rattle.verdict.proofs.Refused.{tried_refused, tried_passed, try_more}

@@ -13,7 +13,7 @@ use Rattle.words.specs.Tests.{◌is◌, ◌below◌, ◌upto◌, ◌and◌, ◌o
 use Rattle.verdict.specs.Limits.{transactions}
 use Rattle.verdict.specs.Log.{steps, kind, tx, obj, src, begins, reads, writes, commits, aborts, begun, ended, wrote, committed, writer, write_one_object, commit_step}
 use Rattle.verdict.specs.Refusal.{object_allowed, source_allowed, range_refusal, life_refusal, source_refusal, step_refusal, open_refusal, log_refusal}
-use Rattle.verdict.specs.declared.answers.Checked.TheVariants.{Passed}
+use Rattle.verdict.specs.Answers.{Passed}
 use Rattle.words.proofs.Truth.{decide, not_both, to_false, same_test, and→, →and, or→, →or_left, →or_right, and_no_left, fails→, →fails, is→, →is, →isnt, below→, not_below→, provided_true, provided_false, some→, →some, some_same, lowest_is, lowest_at}
 use Rattle.verdict.proofs.Refused.{tried_same}
 use Rattle.verdict.proofs.WellFormed.{whole_steps}

@@ -6,7 +6,7 @@ use native.Mathlib.Omega.{arith}
 use lib.ListN.{length}
 use Rattle.verdict.specs.Limits.{transactions}
 use Rattle.verdict.specs.Refusal.{log_refusal}
-use Rattle.verdict.specs.declared.answers.Checked.TheVariants.{Passed}
+use Rattle.verdict.specs.Answers.{Passed}
 use Rattle.words.proofs.Truth.{to_false}
 use Rattle.verdict.proofs.WellFormed.{well_formed}
 use Rattle.verdict.proofs.Versions.{not_zero}

@@ -10,7 +10,7 @@ use Rattle.verdict.specs.Log.{steps, tx, obj, src, committed}
 use Rattle.verdict.specs.Clean.{judged_other, is_clean}
 use Rattle.verdict.specs.Replay.{finds, reads_right, serial, explains_loosely, explains}
 use Rattle.verdict.specs.Refusal.{log_refusal}
-use Rattle.verdict.specs.declared.answers.Checked.TheVariants.{Passed}
+use Rattle.verdict.specs.Answers.{Passed}
 use Rattle.words.proofs.Truth.{decide, not_both, to_false, and→, →and, and_no_left, fails→, →fails, implies→, is→, isnt→, →isnt, every→}
 use Rattle.verdict.proofs.WellFormed.{Well, well_formed}
 use Rattle.verdict.proofs.Versions.{not_zero}

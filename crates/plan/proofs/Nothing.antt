@@ -10,7 +10,7 @@ use Rattle.words.specs.Tests.{◌is◌, count}
 use Rattle.verdict.specs.Limits.{transactions}
 use Rattle.verdict.specs.Log.{committed}
 use Rattle.verdict.specs.Refusal.{log_refusal}
-use Rattle.verdict.specs.declared.answers.Checked.TheVariants.{Passed}
+use Rattle.verdict.specs.Answers.{Passed}
 use Rattle.words.proofs.Truth.{decide, not_both, to_false, is→, isnt→, count_without, none_counted}
 use Rattle.words.proofs.Counting.{count_most}
 use Rattle.verdict.proofs.WellFormed.{well_formed}

@@ -9,7 +9,7 @@ use Rattle.words.specs.Lists.{all, distinct}
 use Rattle.verdict.specs.Log.{committed}
 use Rattle.verdict.specs.Next.{up_to_zero}
 use Rattle.verdict.specs.Refusal.{log_refusal}
-use Rattle.verdict.specs.declared.answers.Checked.TheVariants.{Passed, Refused}
+use Rattle.verdict.specs.Answers.{Passed, Refused}
 use Rattle.words.proofs.Truth.{not_both, to_false, →and, and_no_left, and_no_right, →fails, →not_fails}
 use Rattle.verdict.proofs.WellFormed.{well_formed}
 use Rattle.verdict.proofs.Versions.{not_zero}

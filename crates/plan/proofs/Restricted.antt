@@ -12,7 +12,7 @@ use Rattle.verdict.specs.Log.{steps, tx, obj, src, committed, writer, commit_ste
 use Rattle.verdict.specs.Clean.{judged, judged_other, is_clean}
 use Rattle.verdict.specs.Replay.{finds, reads_right, writers_in_order, serial, explains_loosely, explains}
 use Rattle.verdict.specs.Refusal.{log_refusal}
-use Rattle.verdict.specs.declared.answers.Checked.TheVariants.{Passed}
+use Rattle.verdict.specs.Answers.{Passed}
 use Rattle.words.proofs.Truth.{not_both, to_false, and→, →and, fails→, →fails, implies→, →implies, is→, →is, below→, →below, every→, →every}
 use Rattle.words.proofs.Places.{all→, →all, before_left, before_asym}
 use Rattle.verdict.proofs.WellFormed.{Well, well_formed}

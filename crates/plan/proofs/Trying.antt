@@ -14,7 +14,7 @@ use Rattle.verdict.specs.Outcome.{Outcome, said, shows_order, shows_cycle}
 use Rattle.verdict.specs.Version.{Version, version, version_unclean}
 use Rattle.verdict.specs.Call.{VersionCall, turned_away, answered, said_judged}
 use Rattle.verdict.specs.Refusal.{log_refusal}
-use Rattle.verdict.specs.declared.answers.Checked.TheVariants.{Passed}
+use Rattle.verdict.specs.Answers.{Passed}
 use Rattle.verdict.specs.declared.answers.Fault.{Fault}
 use Rattle.verdict.specs.declared.answers.Fault.TheVariants.{Own, Aborted, Unfinal}
 use Rattle.verdict.specs.declared.answers.Cleanness.TheVariants as cleanness_is

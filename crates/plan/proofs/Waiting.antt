@@ -9,7 +9,7 @@ use Rattle.verdict.specs.Limits.{transactions}
 use Rattle.verdict.specs.Log.{steps, tx, src}
 use Rattle.verdict.specs.Clean.{judged_other, faulty_read, is_clean}
 use Rattle.verdict.specs.Refusal.{log_refusal}
-use Rattle.verdict.specs.declared.answers.Checked.TheVariants.{Passed}
+use Rattle.verdict.specs.Answers.{Passed}
 use Rattle.words.proofs.Truth.{decide, not_both, to_false, is→, isnt→, provided_true}
 use Rattle.plan.specs.TakenBack.{taken_back, ◌but◌}
 use Rattle.plan.specs.Fine.{Fine}

@@ -6,7 +6,7 @@ use Rattle.verdict.specs.Limits.{transactions}
 use Rattle.verdict.specs.Log.{committed}
 use Rattle.verdict.specs.Next.{up_to_zero, from_zero}
 use Rattle.verdict.specs.Refusal.{◌at◌when◌}
-use Rattle.verdict.specs.declared.answers.Checked.{Checked}
+use Rattle.verdict.specs.Answers.{Checked}
 
 abbrev pub proposal_entries : ℕ
 proposal_entries = transactions

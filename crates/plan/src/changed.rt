@@ -4,7 +4,7 @@ ghost use Rattle.words.specs.Tests.{◌is◌, ◌and◌, provided◌then◌else�
 ghost use Rattle.verdict.specs.Log.{tx, obj, src};
 ghost use Rattle.verdict.specs.Limits.{transactions};
 ghost use Rattle.verdict.specs.Refusal.{log_refusal};
-ghost use Rattle.verdict.specs.declared.answers.Checked.TheVariants.{Passed};
+ghost use Rattle.verdict.specs.Answers.{Passed};
 ghost use Rattle.plan.specs.TakenBack.{kind_after, taken_back};
 ghost use Rattle.plan.specs.Fine.{Fine};
 ghost use Rattle.plan.specs.Inner.Marks.{table, marked};

@@ -1,7 +1,7 @@
 // Who committed, by a walk over the log.
 ghost use Rattle.std.specs.Prelude.{◌≡◌, ◌+◌, ◌*◌, ◌≤◌, length};
 ghost use Rattle.verdict.specs.Refusal.{log_refusal};
-ghost use Rattle.verdict.specs.declared.answers.Checked.TheVariants.{Passed};
+ghost use Rattle.verdict.specs.Answers.{Passed};
 ghost use Rattle.plan.specs.Inner.Marks.{Until, Committed};
 
 use crate::marks::index;

@@ -2,7 +2,7 @@
 ghost use Rattle.std.specs.Prelude.{◌≡◌, true, ℕ, length};
 ghost use Rattle.verdict.specs.Limits.{transactions};
 ghost use Rattle.verdict.specs.Refusal.{log_refusal};
-ghost use Rattle.verdict.specs.declared.answers.Checked.TheVariants.{Passed};
+ghost use Rattle.verdict.specs.Answers.{Passed};
 ghost use Rattle.plan.specs.TakenBack.{taken_back, ◌but◌};
 ghost use Rattle.plan.specs.Fine.{Fine};
 ghost use Rattle.plan.specs.WillDo.{Needs, WillDo};

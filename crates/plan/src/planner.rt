@@ -2,7 +2,7 @@
 ghost use Rattle.std.specs.Prelude.{◌≡◌, ◌<◌, length};
 ghost use Rattle.words.specs.Tests.{◌is◌, provided◌then◌else◌, lowest};
 ghost use Rattle.verdict.specs.Refusal.{log_refusal};
-ghost use Rattle.verdict.specs.declared.answers.Checked.TheVariants.{Passed};
+ghost use Rattle.verdict.specs.Answers.{Passed};
 ghost use Rattle.plan.specs.RedoCall.{RedoCall};
 ghost use Rattle.plan.specs.Inner.Marks.{table};
 ghost use Rattle.plan.specs.Inner.Planning.{can_try, Planned};

@@ -3,7 +3,7 @@ ghost use Rattle.std.specs.Prelude.{◌≡◌};
 ghost use Rattle.words.specs.Tests.{◌is◌, fails};
 ghost use Rattle.verdict.specs.Limits.{work_bytes};
 ghost use Rattle.verdict.specs.Refusal.{◌at◌when◌, ◌else_try◌, log_refusal};
-ghost use Rattle.verdict.specs.declared.answers.Checked.TheVariants.{Passed};
+ghost use Rattle.verdict.specs.Answers.{Passed};
 ghost use Rattle.plan.specs.Proposal.{proposal_entries};
 ghost use Rattle.plan.specs.Inner.Marks.{Proposes};
 

@@ -7,8 +7,8 @@ use lib.ListN.{length, get_or, drop, drop_of_length-le}
 use Rattle.words.specs.Lists.{zeros}
 use Rattle.words.proofs.Entries.{into_zeros}
 use Rattle.verdict.specs.Limits.{most_steps}
-use Rattle.verdict.specs.declared.answers.Checked.{Checked}
-use Rattle.verdict.specs.declared.answers.Checked.TheVariants.{Refused}
+use Rattle.verdict.specs.Answers.{Checked}
+use Rattle.verdict.specs.Answers.{Refused}
 use Rattle.verdict.specs.Call.{turned_away, answered}
 use Rattle.text.specs.Line.{header}
 use Rattle.text.specs.Text.{lines, text_of}

@@ -9,8 +9,8 @@ use lib.ListN.{length}
 use Rattle.words.specs.Lists.{entries}
 use Rattle.verdict.specs.Limits.{most_steps}
 use Rattle.verdict.specs.Log.{steps}
-use Rattle.verdict.specs.declared.answers.Checked.{Checked}
-use Rattle.verdict.specs.declared.answers.Checked.TheVariants.{Passed, Refused}
+use Rattle.verdict.specs.Answers.{Checked}
+use Rattle.verdict.specs.Answers.{Passed, Refused}
 use Rattle.verdict.specs.Call.{answered}
 use Rattle.verdict.proofs.Only.{buffer_one, call_one}
 use Rattle.text.specs.Line.{header, sayable, largest}

@@ -3,8 +3,8 @@ use mathlib.Core.Path.{◌≡◌, refl, sym, ap, subst, ◌∙◌}
 use mathlib.Core.List.{List}
 use Prim.Native.Nat.{ℕ}
 use native.Mathlib.Omega.{arith}
-use Rattle.verdict.specs.declared.answers.Checked.{Checked}
-use Rattle.verdict.specs.declared.answers.Checked.TheVariants.{Refused}
+use Rattle.verdict.specs.Answers.{Checked}
+use Rattle.verdict.specs.Answers.{Refused}
 use Rattle.verdict.proofs.WellFormed.{refused≢passed}
 use Rattle.verdict.proofs.Only.{conflict_one, version_one, exact_one, buffer_one, call_one}
 use Rattle.text.specs.Bytes.{bytes}

@@ -16,7 +16,7 @@ use Rattle.verdict.specs.Snapshot.{snapshot_verdict}
 use Rattle.verdict.specs.Reason.{Entry, without_reasons}
 use Rattle.verdict.specs.Exact.{Exact, exact, exact_none, exact_unclean}
 use Rattle.verdict.specs.Outcome.{Outcome, order, cycle, none, unclean}
-use Rattle.verdict.specs.declared.answers.Checked.TheVariants.{Passed, Refused}
+use Rattle.verdict.specs.Answers.{Passed, Refused}
 use Rattle.verdict.specs.declared.answers.Fault.{Fault}
 use Rattle.verdict.specs.declared.answers.Fault.TheVariants.{Own, Aborted, Unfinal}
 use Rattle.verdict.specs.declared.answers.Cleanness.{Cleanness}

@@ -9,7 +9,7 @@ use Rattle.words.specs.Lists.{zeros, entries}
 use Rattle.verdict.specs.Log.{steps}
 use Rattle.verdict.specs.Refusal.{log_refusal}
 use Rattle.verdict.specs.Call.{turned_away, answered}
-use Rattle.verdict.specs.declared.answers.Checked.TheVariants.{Passed}
+use Rattle.verdict.specs.Answers.{Passed}
 use Rattle.verdict.proofs.Only.{buffer_one}
 use Rattle.verdict.proofs.WellFormed.{whole_steps, steps_within}
 use Rattle.text.specs.Text.{text_of}

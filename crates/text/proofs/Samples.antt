@@ -8,7 +8,7 @@ use Rattle.words.specs.Tests.{◌is◌, ◌below◌, ◌upto◌, ◌and◌, prov
 use Rattle.verdict.specs.Log.{steps, kind, tx, obj, src, committed_count}
 use Rattle.verdict.specs.Refusal.{◌at◌when◌, search_refusal}
 use Rattle.verdict.specs.Outcome.{Outcome, cycle, none}
-use Rattle.verdict.specs.declared.answers.Checked.TheVariants.{Passed}
+use Rattle.verdict.specs.Answers.{Passed}
 use Rattle.verdict.specs.declared.answers.Cleanness.TheVariants as cleanness_is
 use Rattle.verdict.specs.declared.answers.Snapshot.TheVariants as snapshot_is
 use Rattle.verdict.proofs.Samples.{Means, led, printed_means}

@@ -12,7 +12,7 @@ use Rattle.words.proofs.Truth.{decide, →and, →upto, is→, isnt→}
 use Rattle.verdict.specs.Limits.{transactions, objects, most_steps}
 use Rattle.verdict.specs.Log.{steps, kind, tx, obj, src}
 use Rattle.verdict.specs.Refusal.{log_refusal}
-use Rattle.verdict.specs.declared.answers.Checked.TheVariants.{Passed}
+use Rattle.verdict.specs.Answers.{Passed}
 use Rattle.verdict.proofs.WellFormed.{kind_within, tx_within, object_within, source_within, source_none, whole_steps, steps_within, ranges}
 use Rattle.text.specs.Bytes.{bytes, blank, line_end}
 use Rattle.text.specs.Decimal.{decimal}

@@ -12,7 +12,7 @@ use Rattle.verdict.specs.Outcome.{Outcome, order, cycle, none, unclean, said, me
 use Rattle.verdict.specs.Judgement.{Holds, ExactIs, over, searched, refused_alone, Judges, JudgeAnswer, refused, judged}
 use Rattle.verdict.specs.Refusal.{log_refusal, search_refusal}
 use Rattle.verdict.specs.Exact.{Exact}
-use Rattle.verdict.specs.declared.answers.Checked.TheVariants.{Passed, Refused}
+use Rattle.verdict.specs.Answers.{Passed, Refused}
 use Rattle.verdict.specs.declared.answers.Answer.{Answer}
 use Rattle.verdict.specs.declared.answers.Exactness.TheVariants.{Over, Searched}
 use Rattle.verdict.specs.declared.answers.Witnessed.{Witnessed}

@@ -8,7 +8,7 @@ use lib.Seq.{take_at}
 use Rattle.words.specs.Lists.{zeros, entries}
 use Rattle.verdict.specs.Limits.{most_steps}
 use Rattle.verdict.specs.Log.{steps}
-use Rattle.verdict.specs.declared.answers.Checked.TheVariants.{Passed, Refused}
+use Rattle.verdict.specs.Answers.{Passed, Refused}
 use Rattle.verdict.specs.Call.{turned_away, answered}
 use Rattle.verdict.proofs.Only.{buffer_one}
 use Rattle.text.specs.Reading.{Says}

@@ -8,7 +8,7 @@ use Rattle.words.specs.Lists.{zeros, entries}
 use Rattle.words.proofs.Truth.{→is, →isnt, →fails, →not_fails}
 use Rattle.verdict.specs.Refusal.{log_refusal}
 use Rattle.verdict.specs.Call.{turned_away, answered}
-use Rattle.verdict.specs.declared.answers.Checked.TheVariants.{Passed, Refused}
+use Rattle.verdict.specs.Answers.{Passed, Refused}
 use Rattle.verdict.proofs.Refused.{first_yes, first_no}
 use Rattle.verdict.proofs.WellFormed.{else_try→}
 use Rattle.verdict.proofs.Bounds.{Within, within_when, within_else, log_within}

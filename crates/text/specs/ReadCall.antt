@@ -3,7 +3,7 @@ use Rattle.std.specs.Prelude.{◌≡◌, List, [], ◌∷◌, ℕ, ◌*◌, ◌�
 use Rattle.words.specs.Lists.{entries}
 use Rattle.verdict.specs.Limits.{most_steps}
 use Rattle.verdict.specs.Log.{steps}
-use Rattle.verdict.specs.declared.answers.Checked.{Checked}
+use Rattle.verdict.specs.Answers.{Checked}
 use Rattle.verdict.specs.Call.{Call}
 use Rattle.text.specs.Reading.{Reading, Says}
 use Rattle.text.specs.declared.TextAnswer.{TextAnswer}

@@ -1,7 +1,7 @@
 -- What the lines of a text give, first line first: 16, 2, or the steps.
 use Rattle.std.specs.Prelude.{◌≡◌, true, List, ◌∷◌, ◌++◌, ℕ, suc, ◌≤◌, ◌<◌}
 use Rattle.verdict.specs.Limits.{most_steps}
-use Rattle.verdict.specs.declared.answers.Checked.{Checked}
+use Rattle.verdict.specs.Answers.{Checked}
 use Rattle.text.specs.Line.{header, line, sayable, sayable_step}
 use Rattle.text.specs.Text.{lines, text_of, Steps}
 

@@ -9,7 +9,7 @@ use Rattle.verdict.specs.Outcome.{Outcome}
 use Rattle.verdict.specs.Conflict.{Conflict}
 use Rattle.verdict.specs.Version.{Version}
 use Rattle.verdict.specs.Exact.{Exact}
-use Rattle.verdict.specs.declared.answers.Checked.{Checked}
+use Rattle.verdict.specs.Answers.{Checked}
 use Rattle.text.specs.Bytes.{bytes}
 use Rattle.text.specs.Line.{header}
 use Rattle.text.specs.Reading.{Says, Reading}

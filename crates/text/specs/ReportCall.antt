@@ -4,7 +4,7 @@ use Rattle.words.specs.Tests.{◌is◌, fails}
 use Rattle.words.specs.Lists.{entries}
 use Rattle.verdict.specs.Refusal.{◌at◌when◌}
 use Rattle.verdict.specs.Call.{Call}
-use Rattle.verdict.specs.declared.answers.Checked.{Checked}
+use Rattle.verdict.specs.Answers.{Checked}
 use Rattle.text.specs.Report.{ReportOf}
 use Rattle.text.specs.declared.TextAnswer.{TextAnswer}
 

@@ -4,7 +4,7 @@ use Rattle.words.specs.Tests.{◌is◌, fails}
 use Rattle.words.specs.Lists.{entries}
 use Rattle.verdict.specs.Refusal.{◌at◌when◌, ◌else_try◌, log_refusal}
 use Rattle.verdict.specs.Call.{Call}
-use Rattle.verdict.specs.declared.answers.Checked.{Checked}
+use Rattle.verdict.specs.Answers.{Checked}
 use Rattle.text.specs.Text.{text_of}
 use Rattle.text.specs.ReportCall.{said_length}
 use Rattle.text.specs.declared.TextAnswer.{TextAnswer}

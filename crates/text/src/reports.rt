@@ -7,7 +7,7 @@ ghost use Rattle.verdict.specs.Snapshot.{snapshot_verdict};
 ghost use Rattle.verdict.specs.Judgement.{Holds, ExactIs, Judges};
 ghost use Rattle.verdict.specs.Conflict.{Conflict};
 ghost use Rattle.verdict.specs.Version.{Version};
-ghost use Rattle.verdict.specs.declared.answers.Checked.TheVariants.{Passed};
+ghost use Rattle.verdict.specs.Answers.{Passed};
 ghost use Rattle.text.specs.Report.{ConflictLine, VersionLine, ExactLine, first_lines, LogReport, ReportOf};
 ghost use Rattle.text.specs.ReportCall.{report_bytes, ReportCall};
 ghost use Rattle.text.specs.Inner.Put.{Puts, PutsLine, most_long, most_exact};

@@ -2,7 +2,7 @@
 ghost use Rattle.std.specs.Prelude.{◌≡◌, ◌≤◌, ◌+◌, ◌*◌, length};
 ghost use Rattle.verdict.specs.Log.{steps};
 ghost use Rattle.verdict.specs.Refusal.{log_refusal};
-ghost use Rattle.verdict.specs.declared.answers.Checked.TheVariants.{Passed};
+ghost use Rattle.verdict.specs.Answers.{Passed};
 ghost use Rattle.text.specs.Line.{op};
 ghost use Rattle.text.specs.Text.{lines, text_of};
 ghost use Rattle.text.specs.WriteCall.{text_bytes, WriteCall};

@@ -9,9 +9,9 @@ use Rattle.words.proofs.Truth.{same_test, and→, →and, →not_fails, is→, �
 use Rattle.verdict.specs.Limits.{objects}
 use Rattle.verdict.specs.Log.{kind, tx, obj, src}
 use Rattle.verdict.specs.Refusal.{object_allowed, source_allowed, range_refusal}
-use Rattle.verdict.specs.Inner.Checking.{Asks, in_range}
+use Rattle.verdict.specs.Inner.Checking.{Asks, in_range, InRange}
 use Rattle.verdict.specs.Inner.StepAt.{StepAt}
-use Rattle.verdict.specs.declared.answers.Checked.{Checked}
+use Rattle.verdict.specs.Answers.{Checked, Passed}
 use Rattle.verdict.specs.declared.step.Step.{Step}
 use Rattle.verdict.specs.declared.taking.Asked.{Asked}
 use Rattle.verdict.proofs.Refused.{first_no}
@@ -52,3 +52,8 @@ by_kind asks place t x s = rw (asks.object x, asks.source s) (sym (first_no 3 pl
 pub by_asked : {log : List ℕ} {i : ℕ} {s : Step} {a : Asked} {r : Checked} → StepAt log i s → Asks (kind log i) a → r ≡ in_range i s.tx s.obj s.src a
     → r ≡ range_refusal i (kind log i) (tx log i) (obj log i) (src log i)
 by_asked {i} step asks e = rw (step.tx_is, step.obj_is, step.src_is) at e ∙ by_kind asks i _ _ _
+
+-- .. and none of them applies
+pub passes_asked : {log : List ℕ} {i : ℕ} {s : Step} {a : Asked} → StepAt log i s → Asks (kind log i) a → Passed ≡ in_range i s.tx s.obj s.src a → InRange log i
+unfolding InRange
+passes_asked step asks e = sym (by_asked step asks e)

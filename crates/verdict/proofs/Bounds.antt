@@ -1,4 +1,5 @@
 -- How large the values of an answer are, and the number and the place of a refusal: for whoever prints or packs them.
+use Rattle.std.specs.Prelude.{Ok, Err}
 use mathlib.Core.Path.{◌≡◌, refl, sym}
 use mathlib.Core.Bool.{Bool, true, false}
 use mathlib.Core.List.{List, [], ◌∷◌}
@@ -18,10 +19,10 @@ use Rattle.words.proofs.Places.{member_head, member_tail, all→}
 use Rattle.graph.proofs.Judge.{nodes, nodes_length, there_node, once_over, once_length, cycle_over, cycle_length}
 use Rattle.verdict.specs.Limits.{transactions, objects, most_steps}
 use Rattle.verdict.specs.Reason.{Entry, first_object, leading, leading_on, with_reasons}
+use Rattle.verdict.proofs.Refused.{one_number, one_place}
 use Rattle.verdict.proofs.Threes.{reasons_length}
 use Rattle.verdict.specs.Log.{steps, kind, tx, obj, src, begins, begun, committed, committed_count, aborted, begin_step, commits_writer}
-use Rattle.verdict.specs.declared.answers.Checked.{Checked}
-use Rattle.verdict.specs.declared.answers.Checked.TheVariants.{Passed, Refused}
+use Rattle.verdict.specs.Answers.{Checked, Passed, Refused}
 use Rattle.verdict.specs.Refusal.{◌at◌when◌, ◌else_try◌, tried, range_refusal, life_refusal, source_refusal, step_refusal, open_refusal, log_refusal, search_refusal, work_refusal, witness_refusal, order_refusal}
 use Rattle.verdict.specs.declared.answers.Fault.{Fault}
 use Rattle.verdict.specs.declared.answers.Fault.TheVariants.{Own, Aborted, Unfinal}
@@ -50,13 +51,13 @@ Within r = (n p : ℕ) → r ≡ Refused n p → (n < 10000) × (p < 10000)
 
 pub within_when : (m q : ℕ) (b : Bool) → m < 10000 → q < 10000 → Within (m at q when b)
 unfolding ◌at◌when◌
-within_when m q true h k n p e = let x : m ≡ n = cc in let y : q ≡ p = cc in (omega arith, omega arith)
+within_when m q true h k n p e = (omega (arith, one_number e), omega (arith, one_place e))
 within_when m q false h k n p e = absurd (refused≢passed (sym e))
 
 pub within_else : (a b : Checked) → Within a → (a ≡ Passed → Within b) → Within (a else_try b)
 unfolding ◌else_try◌
-within_else Passed b f g n p e = g refl n p e
-within_else (Refused m q) b f g n p e = f n p e
+within_else (Ok _) b f g n p e = g refl n p e
+within_else (Err _) b f g n p e = f n p e
 
 within_tried : (n : ℕ) (f : ℕ → Checked) → ((i : ℕ) → i < n → Within (f i)) → Within (tried n f)
 unfolding tried

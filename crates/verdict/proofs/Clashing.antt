@@ -14,7 +14,7 @@ use Rattle.bits.proofs.Marks.{no_mark}
 use Rattle.verdict.specs.Limits.{transactions, objects}
 use Rattle.verdict.specs.Log.{steps, kind, tx, begins, begun, begin_step, commits, committed, writer, commit_step, commits_writer}
 use Rattle.verdict.specs.Refusal.{log_refusal}
-use Rattle.verdict.specs.declared.answers.Checked.TheVariants.{Passed}
+use Rattle.verdict.specs.Answers.{Passed}
 use Rattle.verdict.specs.Snapshot.{snapshot_step, overlap, clash}
 use Rattle.verdict.specs.Inner.Clashes.{partner, LastCommits}
 use Rattle.verdict.specs.Inner.Marks.{FirstSteps}

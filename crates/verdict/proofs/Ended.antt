@@ -10,7 +10,7 @@ use Rattle.words.proofs.Truth.{decide, to_false, not_both, and→, or→, →or_
 use Rattle.verdict.specs.Limits.{transactions}
 use Rattle.verdict.specs.Log.{steps, kind, tx, writes, commits, aborts, begun, ended, committed, aborted, writer}
 use Rattle.verdict.specs.Refusal.{log_refusal}
-use Rattle.verdict.specs.declared.answers.Checked.TheVariants.{Passed}
+use Rattle.verdict.specs.Answers.{Passed}
 use Rattle.verdict.proofs.WellFormed.{ends_once, ends, has_begun}
 
 module _ (log : List ℕ) (well : log_refusal log ≡ Passed) (t : ℕ) where

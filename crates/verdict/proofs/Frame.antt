@@ -1,4 +1,5 @@
 -- The frame of a call: the lengths of the lent buffers, and what an answer leaves in them.
+use Rattle.std.specs.Prelude.{Ok, Err}
 use mathlib.Core.Path.{◌≡◌, refl, sym, ap, ◌∙◌}
 use mathlib.Core.List.{List, [], ◌∷◌}
 use Prim.Native.Nat.{ℕ}
@@ -10,13 +11,9 @@ use Rattle.verdict.specs.Refusal.{◌else_try◌, work_refusal, witness_refusal,
 use Rattle.verdict.specs.Outcome.{Outcome}
 use Rattle.verdict.specs.Judgement.{Holds}
 use Rattle.verdict.specs.Witness.{witness}
-use Rattle.verdict.specs.Call.{turned_away, answered, leaves_work, said_judged, leaves_witness, WitnessCall}
+use Rattle.verdict.specs.Call.{turned_away, answered, leaves_work, leaves_witness, WitnessCall}
 use Rattle.verdict.specs.Inner.Leaving.{Leaves}
-use Rattle.verdict.specs.declared.answers.Checked.{Checked}
-use Rattle.verdict.specs.declared.answers.Checked.TheVariants.{Passed, Refused}
-use Rattle.verdict.specs.declared.answers.Witnessed.{Witnessed}
-use Rattle.verdict.specs.declared.answers.WitnessAnswer.{WitnessAnswer}
-use Rattle.verdict.specs.declared.answers.WitnessAnswer.TheVariants as witness_answer
+use Rattle.verdict.specs.Answers.{Answer, Witnessed, Checked, Passed, Refused}
 use Rattle.verdict.proofs.WellFormed.{else_try→, when→}
 use Rattle.verdict.proofs.Refused.{when_no, tried_passed}
 
@@ -58,21 +55,17 @@ pub record Admitted (rest : Checked) (work lent : List ℕ) : Type 0 where
   pub witness_size : length lent ≡ witness_buffer
   pub well : rest ≡ Passed
 
-module _ (rest : Checked) (work lent : List ℕ) {r : Checked} (told : r ≡ (work_refusal work else_try witness_refusal lent else_try rest)) where
-  pub admitted : r ≡ Passed → Admitted rest work lent
-  admitted e =
-      let t = sym told ∙ e in
+module _ (rest : Checked) (work lent : List ℕ) where
+  pub admitted : (work_refusal work else_try witness_refusal lent else_try rest) ≡ Passed → Admitted rest work lent
+  admitted t =
       let later = else_try→ (else_try→ t).1 in
       record { passed = t; work_size = work_length work (else_try→ t).0; witness_size = witness_length lent later.0; well = later.1 }
-
-  pub call_refused : (verdict : Outcome → Type 0) {n p : ℕ} → r ≡ Refused n p → WitnessCall rest verdict work lent (witness_answer.Refused n p) work lent
-  call_refused verdict e = turned_away _ _ (sym e ∙ told) refl refl
 
 -- numbers that are tried one after another
 pub else_assoc : (a b c : Checked) → ((a else_try b) else_try c) ≡ (a else_try (b else_try c))
 unfolding ◌else_try◌
-else_assoc Passed b c = refl
-else_assoc (Refused n p) b c = refl
+else_assoc (Ok _) b c = refl
+else_assoc (Err _) b c = refl
 
 refused_first : {a : Checked} (b : Checked) {n p : ℕ} → a ≡ Refused n p → (a else_try b) ≡ Refused n p
 unfolding ◌else_try◌
@@ -80,12 +73,12 @@ refused_first b e = rw e refl
 
 -- a call that tries one more number, behind those that are looked for first
 module _ (first later : Checked) {whole : Checked} (split : whole ≡ (first else_try later)) {work lent : List ℕ} where
-  pub refused_early : (verdict : Outcome → Type 0) {r : Checked} → r ≡ (work_refusal work else_try witness_refusal lent else_try first) → {n p : ℕ} → r ≡ Refused n p
-      → WitnessCall whole verdict work lent (witness_answer.Refused n p) work lent
-  refused_early verdict told e =
-      turned_away _ _ (sym (refused_first later (sym told ∙ e)) ∙ else_assoc (work_refusal work) _ later ∙ rw (else_assoc (witness_refusal lent) first later, split) refl) refl refl
+  pub refused_early : (verdict : Outcome → Type 0) {n p : ℕ} → (work_refusal work else_try witness_refusal lent else_try first) ≡ Refused n p
+      → WitnessCall whole verdict work lent (Refused n p) work lent
+  refused_early verdict e =
+      turned_away _ _ (sym (refused_first later e) ∙ else_assoc (work_refusal work) _ later ∙ rw (else_assoc (witness_refusal lent) first later, split) refl) refl refl
 
-  pub refused_later : (verdict : Outcome → Type 0) → Admitted first work lent → {n p : ℕ} → later ≡ Refused n p → WitnessCall whole verdict work lent (witness_answer.Refused n p) work lent
+  pub refused_later : (verdict : Outcome → Type 0) → Admitted first work lent → {n p : ℕ} → later ≡ Refused n p → WitnessCall whole verdict work lent (Refused n p) work lent
   refused_later verdict a e =
       turned_away _ _ (sym (tried_passed later a.passed ∙ e) ∙ else_assoc (work_refusal work) _ later ∙ rw (else_assoc (witness_refusal lent) first later, split) refl) refl refl
 
@@ -100,8 +93,8 @@ module _ (first later : Checked) {whole : Checked} (split : whole ≡ (first els
       }
 
 -- what is found is said, and its members are laid into the witness
-pub call_left : {rest : Checked} {work lent : List ℕ} {verdict : Outcome → Type 0} {found : Witnessed} {r : WitnessAnswer} {work' lent' : List ℕ}
-    → Admitted rest work lent → Holds verdict found → Leaves work found r work' lent' → WitnessCall rest verdict work lent r work' lent'
-unfolding said_judged leaves_witness witness
+pub call_left : {rest : Checked} {work lent : List ℕ} {verdict : Outcome → Type 0} {found : Witnessed} {a : Answer} {work' lent' : List ℕ}
+    → Admitted rest work lent → Holds verdict found → Leaves work found a work' lent' → WitnessCall rest verdict work lent (Ok a) work' lent'
+unfolding leaves_witness witness
 call_left a h l =
-    answered h.outcome (sym a.passed) h.right (l.says ∙ ap witness_answer.Judged h.says) (rw (l.cleared, a.work_size, l.laid, h.listed) refl)
+    answered h.outcome (sym a.passed) h.right (ap Ok (l.says ∙ h.says)) (rw (l.cleared, a.work_size, l.laid, h.listed) refl)

@@ -15,7 +15,7 @@ use Rattle.verdict.specs.Clean.{is_clean}
 use Rattle.verdict.specs.Replay.{explains_loosely, explains}
 use Rattle.verdict.specs.Next.{up_to_zero, from_zero, list_refusal}
 use Rattle.verdict.specs.Inner.Following.{Split}
-use Rattle.verdict.specs.declared.answers.Checked.TheVariants.{Passed, Refused}
+use Rattle.verdict.specs.Answers.{Passed, Refused}
 use Rattle.verdict.proofs.Refused.{when_yes, when_no}
 
 -- the first i are no 0

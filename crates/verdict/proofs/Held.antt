@@ -1,4 +1,5 @@
 -- An order as it is handed to "next" and read back, and what a call with a witness answered.
+use Rattle.std.specs.Prelude.{Ok}
 use mathlib.Core.Path.{◌≡◌, refl, sym, ap, ◌∙◌}
 use mathlib.Core.Bool.{true}
 use mathlib.Core.List.{List, [], ◌∷◌, ◌++◌}
@@ -19,13 +20,11 @@ use Rattle.verdict.specs.Witness.{in_threes, read_off, handed}
 use Rattle.verdict.specs.Witness as lent
 use Rattle.verdict.specs.Replay.{serial, explains}
 use Rattle.verdict.specs.Next.{up_to_zero, from_zero, list_refusal}
-use Rattle.verdict.specs.Call.{turned_away, answered, said_judged, leaves_witness, WitnessCall}
-use Rattle.verdict.specs.declared.answers.Checked.{Checked}
-use Rattle.verdict.specs.declared.answers.Checked.TheVariants.{Passed}
+use Rattle.verdict.specs.Call.{turned_away, answered, leaves_witness, WitnessCall}
+use Rattle.verdict.specs.Answers.{Checked, Passed}
 use Rattle.verdict.specs.declared.answers.Fault.{Fault}
 use Rattle.verdict.specs.declared.answers.Answer.{Answer}
 use Rattle.verdict.specs.declared.answers.Answer.TheVariants.{Order, Cycle, None, Unclean}
-use Rattle.verdict.specs.declared.answers.WitnessAnswer.TheVariants.{Judged}
 use Rattle.verdict.proofs.WellFormed.{else_try→, well_formed}
 use Rattle.verdict.proofs.Versions.{not_zero}
 use Rattle.verdict.proofs.Computed.{explains_serial}
@@ -106,29 +105,29 @@ taken_off w {n} e =
     (rw e (read_order w z), omega (arith, threes_length (without_reasons w), plain_length w))
 
 -- which outcome is said
-told_order : (a : Outcome) {n : ℕ} → Judged (Order n) ≡ said_judged a → (w : List ℕ) × (a ≡ order w) × (n ≡ length w)
-unfolding said_judged said
+told_order : (a : Outcome) {n : ℕ} → Order n ≡ said a → (w : List ℕ) × (a ≡ order w) × (n ≡ length w)
+unfolding said
 told_order (order w) e = (w, refl, cc)
 told_order (cycle c) e = let z : ◌≡◌ {A = ℕ} 0 1 = cc in absurd (omega arith)
 told_order none e = let z : ◌≡◌ {A = ℕ} 0 1 = cc in absurd (omega arith)
 told_order (unclean f) e = let z : ◌≡◌ {A = ℕ} 0 1 = cc in absurd (omega arith)
 
-told_none : (a : Outcome) → Judged None ≡ said_judged a → a ≡ none
-unfolding said_judged said
+told_none : (a : Outcome) → None ≡ said a → a ≡ none
+unfolding said
 told_none (order w) e = let z : ◌≡◌ {A = ℕ} 0 1 = cc in absurd (omega arith)
 told_none (cycle c) e = let z : ◌≡◌ {A = ℕ} 0 1 = cc in absurd (omega arith)
 told_none none e = refl
 told_none (unclean f) e = let z : ◌≡◌ {A = ℕ} 0 1 = cc in absurd (omega arith)
 
-told_cycle : (a : Outcome) {n : ℕ} → Judged (Cycle n) ≡ said_judged a → (c : List Entry) × (a ≡ cycle c)
-unfolding said_judged said
+told_cycle : (a : Outcome) {n : ℕ} → Cycle n ≡ said a → (c : List Entry) × (a ≡ cycle c)
+unfolding said
 told_cycle (order w) e = let z : ◌≡◌ {A = ℕ} 0 1 = cc in absurd (omega arith)
 told_cycle (cycle c) e = (c, refl)
 told_cycle none e = let z : ◌≡◌ {A = ℕ} 0 1 = cc in absurd (omega arith)
 told_cycle (unclean f) e = let z : ◌≡◌ {A = ℕ} 0 1 = cc in absurd (omega arith)
 
-told_unclean : (a : Outcome) {f : Fault} → Judged (Unclean f) ≡ said_judged a → a ≡ unclean f
-unfolding said_judged said
+told_unclean : (a : Outcome) {f : Fault} → Unclean f ≡ said a → a ≡ unclean f
+unfolding said
 told_unclean (order w) e = let z : ◌≡◌ {A = ℕ} 0 1 = cc in absurd (omega arith)
 told_unclean (cycle c) e = let z : ◌≡◌ {A = ℕ} 0 1 = cc in absurd (omega arith)
 told_unclean none e = let z : ◌≡◌ {A = ℕ} 0 1 = cc in absurd (omega arith)
@@ -136,13 +135,13 @@ told_unclean (unclean g) e = cc
 
 module _ (refusal : Checked) {verdict : Outcome → Type 0} {work witness work' witness' : List ℕ} where
   -- what was answered was not turned away
-  pub call_judged : {a : Answer} → WitnessCall refusal verdict work witness (Judged a) work' witness'
-      → (o : Outcome) × (refusal ≡ Passed) × verdict o × (Judged a ≡ said_judged o) × (witness' ≡ lent.witness o)
+  pub call_judged : {a : Answer} → WitnessCall refusal verdict work witness (Ok a) work' witness'
+      → (o : Outcome) × (refusal ≡ Passed) × verdict o × (a ≡ said o) × (witness' ≡ lent.witness o)
   unfolding leaves_witness
   call_judged (turned_away m p g e k) = let z : ◌≡◌ {A = ℕ} 0 1 = cc in absurd (omega arith)
-  call_judged (answered o g v e k) = (o, (else_try→ (else_try→ (sym g)).1).1, v, e, (buffers_one k).1)
+  call_judged (answered o g v e k) = (o, (else_try→ (else_try→ (sym g)).1).1, v, cc, (buffers_one k).1)
 
-  pub call_order : {n : ℕ} → WitnessCall refusal verdict work witness (Judged (Order n)) work' witness' → Ordered refusal verdict n witness'
+  pub call_order : {n : ℕ} → WitnessCall refusal verdict work witness (Ok (Order n)) work' witness' → Ordered refusal verdict n witness'
   call_order {n} c =
       let j = call_judged c in
       let t = told_order j.0 j.3 in
@@ -150,11 +149,11 @@ module _ (refusal : Checked) {verdict : Outcome → Type 0} {work witness work' 
       let o = taken_off t.0 t.2 in
       record { well = j.1; w = t.0; right = rw t.1 at j.2; left = l; room = rw l o.1; taken_out = ap (read_off n) l ∙ o.0 }
 
-  pub call_none : WitnessCall refusal verdict work witness (Judged None) work' witness' → verdict none
+  pub call_none : WitnessCall refusal verdict work witness (Ok None) work' witness' → verdict none
   call_none c = let j = call_judged c in rw (told_none j.0 j.3) at j.2
 
-  pub call_cycle : {n : ℕ} → WitnessCall refusal verdict work witness (Judged (Cycle n)) work' witness' → (refusal ≡ Passed) × ((c : List Entry) × verdict (cycle c))
+  pub call_cycle : {n : ℕ} → WitnessCall refusal verdict work witness (Ok (Cycle n)) work' witness' → (refusal ≡ Passed) × ((c : List Entry) × verdict (cycle c))
   call_cycle c = let j = call_judged c in let t = told_cycle j.0 j.3 in (j.1, (t.0, rw t.1 at j.2))
 
-  pub call_unclean : {f : Fault} → WitnessCall refusal verdict work witness (Judged (Unclean f)) work' witness' → (refusal ≡ Passed) × verdict (unclean f)
+  pub call_unclean : {f : Fault} → WitnessCall refusal verdict work witness (Ok (Unclean f)) work' witness' → (refusal ≡ Passed) × verdict (unclean f)
   call_unclean c = let j = call_judged c in (j.1, rw (told_unclean j.0 j.3) at j.2)

@@ -1,6 +1,7 @@
 -- Laws of the definitions, and the theorems over them.
 pub mod Fill
 pub mod Refused
+pub mod Made
 pub mod Numbers
 pub mod JudgedReads
 pub mod Faults

@@ -1,6 +1,7 @@
 -- Demand 3, over the contracts of `version` and `next`: whatever results they allow, the listing has every order that explains the log,
 -- once each, in dictionary order, and no other. It is empty exactly when a read is unclean or the version verdict shows a cycle.
 -- Asking is never turned away, and it comes to an end.
+use Rattle.std.specs.Prelude.{Result, Ok}
 use mathlib.Core.Path.{◌≡◌, refl, sym, ap, subst, ◌∙◌}
 use mathlib.Core.Bool.{Bool, true}
 use mathlib.Core.Logic.{◌⊎◌, inl, inr, ⊎_elim, ◌↔◌}
@@ -24,14 +25,11 @@ use Rattle.verdict.specs.Replay.{serial, explains_loosely, explains}
 use Rattle.verdict.specs.Next.{Next, next, next_none, up_to_zero, list_refusal}
 use Rattle.verdict.specs.Witness.{read_off, handed}
 use Rattle.verdict.specs.Witness as lent
-use Rattle.verdict.specs.Call.{turned_away, answered, said_judged, leaves_witness, WitnessCall, NextCall}
+use Rattle.verdict.specs.Call.{turned_away, answered, leaves_witness, WitnessCall, NextCall}
 use Rattle.verdict.specs.Listing.{VersionOrder, version_order, NextOrder, next_order, Asked, ends, brings, Listing, from_first, empty_cycle, empty_unclean, Brought, by_version, by_next}
-use Rattle.verdict.specs.declared.answers.Checked.{Checked}
-use Rattle.verdict.specs.declared.answers.Checked.TheVariants.{Passed}
+use Rattle.verdict.specs.Answers.{Answer, Refusal, Checked, Passed}
 use Rattle.verdict.specs.declared.answers.Fault.{Fault}
 use Rattle.verdict.specs.declared.answers.Answer.TheVariants.{Order, None}
-use Rattle.verdict.specs.declared.answers.WitnessAnswer.{WitnessAnswer}
-use Rattle.verdict.specs.declared.answers.WitnessAnswer.TheVariants.{Judged}
 use Rattle.words.proofs.Truth.{not_both, to_false, and→, →and, implies→, every→}
 use Rattle.words.proofs.Dictionary.{dictionary_same, dictionary_trans, first_one}
 use Rattle.words.proofs.Search.{listed_first, listed_none, listed_later, →listed, →listed_none, listed_one}
@@ -137,7 +135,7 @@ module _ (log : List ℕ) where
   version_order_explains (version_order c) = record { well = (call_order (log_refusal log) c).well; right = (version_order_first (version_order c)).one }
 
   -- that of `next` is the first that explains and comes later
-  called_first : (handed_in : List ℕ) {work witness work' witness' : List ℕ} {n : ℕ} → NextCall log handed_in work witness (Judged (Order n)) work' witness'
+  called_first : (handed_in : List ℕ) {work witness work' witness' : List ℕ} {n : ℕ} → NextCall log handed_in work witness (Ok (Order n)) work' witness'
       → First dictionary (later (explains transactions log) (up_to_zero handed_in)) (read_off n witness')
   called_first handed_in c =
       let o = call_order (order_turned log handed_in) c in
@@ -197,9 +195,9 @@ module _ (log : List ℕ) where
 
   -- ASKING GOES ON TO THE END
   -- with buffers of the right length, "next" is not turned away: it answers none, or an order
-  pub asking_goes_on : {v : List ℕ} → Brought log v → {work witness work' witness' : List ℕ} {r : WitnessAnswer} → length work ≡ work_bytes → length witness ≡ witness_buffer
-      → NextCall log (handed v) work witness r work' witness' → (r ≡ Judged None) ⊎ ((n : ℕ) × (r ≡ Judged (Order n)))
-  unfolding said_judged said
+  pub asking_goes_on : {v : List ℕ} → Brought log v → {work witness work' witness' : List ℕ} {r : Result Answer Refusal} → length work ≡ work_bytes → length witness ≡ witness_buffer
+      → NextCall log (handed v) work witness r work' witness' → (r ≡ Ok None) ⊎ ((n : ℕ) × (r ≡ Ok (Order n)))
+  unfolding said
   asking_goes_on o {work} {witness} p q (turned_away m k g e f) =
       absurd (refused≢passed (g ∙ both_passed (work_passed work p) (both_passed (witness_passed witness q) (not_turned (brought_explains o)))))
   asking_goes_on o p q (answered a g (next {w} f) e k) = inr (length w, e)
@@ -214,7 +212,7 @@ module _ (log : List ℕ) where
   later_listed v = orders_listed transactions log _ (λ u h. explains_serial transactions log u (and→ h).0)
 
   -- each order that is brought leaves fewer
-  pub fewer_to_come : (handed_in : List ℕ) {work witness work' witness' : List ℕ} {n : ℕ} → NextCall log handed_in work witness (Judged (Order n)) work' witness'
+  pub fewer_to_come : (handed_in : List ℕ) {work witness work' witness' : List ℕ} {n : ℕ} → NextCall log handed_in work witness (Ok (Order n)) work' witness'
       → to_come (read_off n witness') < to_come (up_to_zero handed_in)
   unfolding to_come later
   fewer_to_come handed_in {witness'} {n} c =
@@ -232,14 +230,14 @@ module _ (log : List ℕ) where
   module _ (well : log_refusal log ≡ Passed) where
     -- a call with empty buffers, where nothing turns it away
     call_of : (refusal : Checked) {verdict : Outcome → Type 0} (a : Outcome) → refusal ≡ Passed → verdict a
-        → WitnessCall refusal verdict (zeros work_bytes) (zeros witness_buffer) (said_judged a) (zeros work_bytes) (lent.witness a)
+        → WitnessCall refusal verdict (zeros work_bytes) (zeros witness_buffer) (Ok (said a)) (zeros work_bytes) (lent.witness a)
     unfolding leaves_witness zeros
     call_of refusal a e v =
         answered a (sym (both_passed (work_passed (zeros work_bytes) (length-replicate {A = ℕ} work_bytes 0)) (both_passed (witness_passed (zeros witness_buffer) (length-replicate {A = ℕ} witness_buffer 0)) e))) v refl refl
 
     -- the order that a call shows, and the one that it brings
     version_order_of : (w : List ℕ) → Version transactions log (order w) → VersionOrder log w
-    unfolding said_judged said
+    unfolding said
     version_order_of w v = subst (VersionOrder log) (taken_off w refl).0 (version_order (call_of (log_refusal log) (order w) well v))
 
     module _ (v : List ℕ) (h : explains transactions log v ≡ true) where
@@ -247,13 +245,13 @@ module _ (log : List ℕ) where
       explaining = record { well = well; right = h }
 
       next_order_of : (w : List ℕ) → First dictionary (later (explains transactions log) v) w → NextOrder log v w
-      unfolding said_judged said
+      unfolding said
       next_order_of w f =
           subst (NextOrder log v) (taken_off w refl).0
           (next_order (call_of (order_turned log (handed v)) (order w) (not_turned explaining) (rw (front explaining) (next f))))
 
       none_asked : Never (later (explains transactions log) v) → Asked log v []
-      unfolding said_judged said
+      unfolding said
       none_asked n = ends (call_of (order_turned log (handed v)) none (not_turned explaining) (rw (front explaining) (next_none n)))
 
     listed_asked : (v : List ℕ) → explains transactions log v ≡ true → (ws : List (List ℕ)) → Listed (later (explains transactions log) v) ws → Asked log v ws
@@ -264,7 +262,7 @@ module _ (log : List ℕ) where
         brings (next_order_of v h w f) (listed_asked w (and→ f.one).0 ws (again_later (explains transactions log) v w ws (and→ f.one).1 (listed_later l)))
 
     pub listing_some : (ws : List (List ℕ)) × Listing log ws
-    unfolding said_judged said
+    unfolding said
     listing_some = go (version_some log (well_formed log well)).0 (version_some log (well_formed log well)).1
       where
         all_orders : Listed (explains transactions log) (orders transactions log (explains transactions log))

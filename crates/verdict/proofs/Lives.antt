@@ -11,9 +11,9 @@ use Rattle.words.specs.Tests.{◌is◌, ◌and◌, ◌or◌, fails, provided◌t
 use Rattle.words.proofs.Truth.{decide, not_both, to_false, →and, and_no_left, and_no_right, →or_left, →or_right, or_no, is→, →is, isnt→, →isnt, provided_true, provided_false, →some, some_skip, some_next}
 use Rattle.verdict.specs.Limits.{transactions}
 use Rattle.verdict.specs.Log.{steps, kind, tx, begins, commits, aborts, begun, ended}
-use Rattle.verdict.specs.Refusal.{◌at◌when◌, tried, life_refusal, open_refusal}
-use Rattle.verdict.specs.Inner.Checking.{numbered, life, open_by_lives, Lived}
-use Rattle.verdict.specs.declared.answers.Checked.TheVariants.{Passed, Refused}
+use Rattle.verdict.specs.Refusal.{tried, life_refusal, open_refusal}
+use Rattle.verdict.specs.Inner.Checking.{life, open_by_lives, Lived}
+use Rattle.verdict.specs.Answers.{Passed, Refused}
 use Rattle.verdict.proofs.Numbers.{begun_again, begins_now, not_begun, has_ended, under_way}
 use Rattle.verdict.proofs.Refused.{tried_same}
 
@@ -87,10 +87,9 @@ module _ (log : List ℕ) (i : ℕ) where
         go (inl b) (inr e) = absurd (other (life_open log i (tx log i) b e ∙ sym (provided_false _ _ (→isnt k))))
 
     -- the number that its kind gets
-    pub life_late : {n : ℕ} → n ≡ (provided kind log i is 1 then 7 else 8) → numbered n i ≡ life_refusal log i
-    unfolding numbered ◌at◌when◌ fails ◌is◌
+    pub life_late : {n : ℕ} → n ≡ (provided kind log i is 1 then 7 else 8) → life_refusal log i ≡ Refused n i
     life_late e =
-        ⊎_elim (λ k. rw (e ∙ provided_true _ _ k) (sym (life_7 (is→ k)))) (λ k. rw (e ∙ provided_false _ _ k) (sym (life_8 (isnt→ k)))) (decide (kind log i is 1))
+        ⊎_elim (λ k. rw (e ∙ provided_true _ _ k) (life_7 (is→ k))) (λ k. rw (e ∙ provided_false _ _ k) (life_8 (isnt→ k))) (decide (kind log i is 1))
 
 -- after the last step, the table says who is open
 pub open_lived : (log : List ℕ) {l : List ℕ} → Lived log (steps log) l → tried (suc transactions) (open_by_lives l) ≡ tried (suc transactions) (open_refusal log)

@@ -4,7 +4,6 @@ use mathlib.Core.Bool.{Bool, true, false}
 use mathlib.Core.List.{List}
 use mathlib.Core.Option.{Option, some as just}
 use Prim.Native.Nat.{ℕ, suc}
-use native.Mathlib.Omega.{arith}
 use lib.ListN.{take}
 use Rattle.words.specs.Lists.{zeros}
 use Rattle.words.specs.First.{dictionary, First, Never, later}
@@ -20,15 +19,14 @@ use Rattle.verdict.specs.Outcome.{Outcome, order}
 use Rattle.verdict.specs.Judgement.{Holds}
 use Rattle.verdict.specs.Version.{version_edge}
 use Rattle.verdict.specs.Replay.{serial, explains}
-use Rattle.verdict.specs.Next.{Next, next, next_none, up_to_zero, list_refusal}
+use Rattle.verdict.specs.Next.{Next, next, next_none}
 use Rattle.verdict.specs.Inner.Marks.{Committed}
 use Rattle.verdict.specs.Inner.Edges.{Drawn}
 use Rattle.verdict.specs.Inner.Reasons.{by_value}
-use Rattle.verdict.specs.Inner.Following.{LaterOrder, later_order, none_later, Brings, Comes, not_listed, follows}
-use Rattle.verdict.specs.declared.answers.Checked.TheVariants.{Passed, Refused}
+use Rattle.verdict.specs.Inner.Following.{LaterOrder, later_order, none_later, Brings}
+use Rattle.verdict.specs.Answers.{Passed}
 use Rattle.verdict.specs.declared.answers.Answer.TheVariants.{None}
 use Rattle.verdict.specs.declared.answers.Witnessed.{Witnessed}
-use Rattle.verdict.specs.declared.following.Following.{Following}
 use Rattle.verdict.proofs.WellFormed.{Well, well_formed}
 use Rattle.verdict.proofs.Computed.{explains_serial}
 use Rattle.verdict.proofs.Center.{centre}
@@ -79,13 +77,3 @@ module _ {m part v : List ℕ} {r : Later} (f : Follows transactions m part v r)
       go : (o : Option (List ℕ)) → Earliest (later (matrix_order transactions m part) v) o → r.found ≡ is_some o → LaterOrder m part v Outcome.none
       go (just w) g t = absurd (not_both t h)
       go Option.none (not_any g) t = none_later g
-
--- what comes after an order, from whether it was turned away
-module _ {log handed_in : List ℕ} {f : Following} where
-  pub comes_refused : Comes log handed_in f → {n p : ℕ} → f.checked ≡ Refused n p → list_refusal transactions log handed_in ≡ Refused n p
-  comes_refused (not_listed r c) e = r ∙ sym c ∙ e
-  comes_refused (follows r c h) e = let z : ◌≡◌ {A = ℕ} 0 1 = cc in absurd (omega arith)
-
-  pub comes_next : Comes log handed_in f → f.checked ≡ Passed → (list_refusal transactions log handed_in ≡ Passed) × Holds (Next transactions log (up_to_zero handed_in)) f.found
-  comes_next (not_listed r c) e = let z : ◌≡◌ {A = ℕ} 0 1 = cc in absurd (omega arith)
-  comes_next (follows r c h) e = (r, h)

@@ -1,6 +1,6 @@
 -- What the check notes of each step, and what is learned of the whole log.
 use mathlib.Core.Path.{◌≡◌, refl, sym, ◌∙◌}
-use mathlib.Core.Bool.{Bool, false}
+use mathlib.Core.Bool.{false}
 use mathlib.Core.Logic.{◌⊎◌, ⊎_elim}
 use mathlib.Core.List.{List}
 use Prim.Native.Nat.{ℕ, suc, ◌+◌, ◌≤◌}
@@ -15,12 +15,11 @@ use Rattle.verdict.specs.Log.{steps, kind, tx, begins, commits, begun, ended, wr
 use Rattle.verdict.specs.Refusal.{tried, step_refusal}
 use Rattle.verdict.specs.Clean.{own_fault}
 use Rattle.verdict.specs.Inner.Marks.{does, Committed}
-use Rattle.verdict.specs.Inner.Checking.{StepsBefore, InOrder, Lived, Noted, Takes, Learned}
+use Rattle.verdict.specs.Inner.Checking.{StepsBefore, InOrder, Lived, Noted, Learned}
 use Rattle.verdict.specs.Inner.WriteTable.{Versions}
 use Rattle.verdict.specs.declared.refusal.Examined.{Examined}
-use Rattle.verdict.specs.declared.answers.Checked.TheVariants.{Passed}
+use Rattle.verdict.specs.Answers.{Passed}
 use Rattle.verdict.proofs.WellFormed.{tried→, step_within, tx_within, fresh, alive}
-use Rattle.verdict.proofs.Numbers.{no_such_kind}
 use Rattle.verdict.proofs.FirstSteps.{steps_none, steps_skip, steps_more, steps_all}
 use Rattle.verdict.proofs.CommitOrders.{order_none, order_skip, order_more}
 use Rattle.verdict.proofs.Lives.{lived_none, lived_on, lived_begin, lived_end}
@@ -74,13 +73,6 @@ module _ (log : List ℕ) (i : ℕ) (passed : step_refusal log i ≡ Passed) whe
           f t
           ∙ same_test (λ h. ⊎_elim (λ z. some_next i (does log 4 t) ∙ →or_right _ (→and (→is k) (→is (sym (is→ (and→ (and→ z).0).0))))) (λ z. some_next i (does log 4 t) ∙ →or_left _ (sym (before.who t) ∙ z)) (or→ h))
           (λ h. ⊎_elim (λ z. →or_right _ (before.who t ∙ z)) (λ z. →or_left _ (→and (→and (→is (sym (is→ (and→ z).1))) (→upto tx_in.0)) (→upto tx_in.1))) (or→ (sym (some_next i (does log 4 t)) ∙ h)))
-
--- a step of no kind is turned away, whatever is noted
-pub turned_away : (log : List ℕ) (i : ℕ) → (1 upto kind log i and kind log i upto 5) ≡ false → {m : Bool} {l b c p o w : List ℕ} → Takes log i record { number = 3; missed = m } l b c p o w
-turned_away log i n = record { says = no_such_kind log i n; noted = λ e. absurd (three e); told = λ e. absurd (three e) }
-  where
-    three : ◌≡◌ {A = ℕ} 3 0 → ⊥
-    three z = omega arith
 
 -- nobody commits at a step of another kind
 pub none_commits : (log : List ℕ) (i : ℕ) {c p o : List ℕ} → (kind log i ≡ 4 → ⊥) → InOrder log i c p o → InOrder log (i + 1) c p o

@@ -4,26 +4,21 @@ use mathlib.Core.Bool.{true, false}
 use mathlib.Core.Logic.{◌⊎◌, ⊎_elim}
 use mathlib.Core.List.{List}
 use Prim.Native.Nat.{ℕ, suc, ◌%◌}
-use native.Mathlib.Omega.{arith}
 use lib.ListN.{length, get_or}
 use Rattle.words.specs.Tests.{◌is◌, ◌upto◌, ◌and◌, fails}
 use Rattle.words.proofs.Truth.{→and, and_no_left, and_no_right, →or_left, →or_right, or_no, →fails, →not_fails, →is, →isnt, →below, →not_below, upto→, not_upto→}
 use Rattle.verdict.specs.Limits.{transactions, most_steps}
 use Rattle.verdict.specs.Log.{steps, kind, tx, obj, src, begun, ended, wrote}
-use Rattle.verdict.specs.declared.answers.Checked.{Checked}
-use Rattle.verdict.specs.declared.answers.Checked.TheVariants.{Passed, Refused}
+use Rattle.verdict.specs.Answers.{Checked, Passed, Refused}
 use Rattle.verdict.specs.Refusal.{◌else_try◌, tried, range_refusal, life_refusal, source_refusal, step_refusal, open_refusal, log_refusal}
-use Rattle.verdict.specs.Inner.Checking.{numbered, open_by_lives}
-use Rattle.verdict.proofs.Refused.{when_yes, when_no, first_yes, first_no, numbered_some, numbered_first, try_none}
+use Rattle.verdict.specs.Inner.Checking.{open_by_lives}
+use Rattle.verdict.proofs.Refused.{when_yes, when_no, first_yes, first_no, tried_refused, try_none}
 
 module _ (log : List ℕ) (i : ℕ) where
   -- 3
-  pub no_such_kind : (1 upto kind log i and kind log i upto 5) ≡ false → numbered 3 i ≡ step_refusal log i
+  pub no_such_kind : (1 upto kind log i and kind log i upto 5) ≡ false → step_refusal log i ≡ Refused 3 i
   unfolding step_refusal range_refusal
-  no_such_kind n = numbered_first 3 i _ (numbered_some 3 i three ∙ sym (first_yes 3 i _ (→fails n))) three
-    where
-      three : ◌≡◌ {A = ℕ} 3 0 → ⊥
-      three z = omega arith
+  no_such_kind n = tried_refused _ (first_yes 3 i _ (→fails n))
 
   -- 7 and 8
   pub begun_again : kind log i ≡ 1 → begun log i (tx log i) ≡ true → life_refusal log i ≡ Refused 7 i

@@ -8,7 +8,7 @@ use Rattle.words.specs.Lists.{member, all, distinct}
 use Rattle.graph.specs.Cycle.{leads, is_cycle}
 use Rattle.verdict.specs.Limits.{transactions}
 use Rattle.verdict.specs.Log.{steps, kind, tx, obj, src, begins, reads, writes, commits, aborts, begun, ended, wrote, committed, aborted, writer, write_one_object, begin_step, commit_step, commits_writer}
-use Rattle.verdict.specs.declared.answers.Checked.TheVariants.{Passed}
+use Rattle.verdict.specs.Answers.{Passed}
 use Rattle.verdict.specs.Refusal.{◌at◌when◌, ◌else_try◌, tried, object_allowed, source_allowed, range_refusal, life_refusal, source_refusal, step_refusal, open_refusal, log_refusal}
 use Rattle.verdict.specs.declared.answers.Cleanness.TheVariants as cleanness_is
 use Rattle.verdict.specs.Clean.{judged, judged_other, after_own_write, writes_later, final_source, own_fault, source_fault, faulty_read, is_clean, fault_at, cleanness}

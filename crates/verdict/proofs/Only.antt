@@ -1,4 +1,5 @@
 -- The statements fix the answers: any two that they allow are equal. The one statement of a call fixes every lent entry too.
+use Rattle.std.specs.Prelude.{Result, Ok}
 use mathlib.Core.Path.{◌≡◌, refl, sym, ap, ◌∙◌}
 use mathlib.Core.Bool.{Bool}
 use mathlib.Core.List.{List, [], ◌∷◌}
@@ -10,13 +11,12 @@ use Rattle.verdict.specs.Limits.{witness_buffer}
 use Rattle.verdict.specs.Outcome.{Outcome, order, cycle, unclean, said, OfGraph, shows_order, shows_cycle}
 use Rattle.verdict.specs.Reason.{with_reasons}
 use Rattle.verdict.specs.Witness.{witness}
-use Rattle.verdict.specs.Judgement.{Holds, ExactIs, over, searched, refused_alone, JudgeAnswer, refused, judged}
+use Rattle.verdict.specs.Judgement.{Holds, ExactIs, over, searched, Judges, JudgeAnswer, refused, judged}
 use Rattle.verdict.specs.declared.answers.Witnessed.{Witnessed}
 use Rattle.verdict.specs.declared.answers.Exactness.TheVariants.{Over, Searched}
 use Rattle.verdict.specs.declared.answers.ExactWitnessed.{ExactWitnessed}
 use Rattle.verdict.specs.declared.answers.Judgement.{Judgement}
-use Rattle.verdict.specs.declared.answers.Checked.{Checked}
-use Rattle.verdict.specs.declared.answers.Checked.TheVariants.{Passed, Refused}
+use Rattle.verdict.specs.Answers.{Answer, Snapshot, Refusal, Checked, Passed, Refused}
 use Rattle.verdict.specs.declared.answers.Fault.{Fault}
 use Rattle.verdict.specs.declared.answers.Cleanness.{Cleanness}
 use Rattle.verdict.specs.declared.answers.Cleanness.TheVariants.{Unclean}
@@ -27,13 +27,11 @@ use Rattle.verdict.specs.Replay.{explains_loosely}
 use Rattle.verdict.specs.Exact.{Exact, exact, exact_none, exact_unclean}
 use Rattle.verdict.specs.Next.{Next, next, next_none}
 use Rattle.verdict.specs.Call.{Call, turned_away, answered, CleanCall, SnapshotCall, WitnessCall, ConflictCall, VersionCall, ExactCall, NextCall}
-use Rattle.verdict.specs.declared.answers.CleanAnswer.{CleanAnswer}
-use Rattle.verdict.specs.declared.answers.SnapshotAnswer.{SnapshotAnswer}
-use Rattle.verdict.specs.declared.answers.WitnessAnswer.{WitnessAnswer}
 use Rattle.graph.specs.declared.Shape.TheVariants as shape
 use Rattle.words.proofs.Truth.{and→}
 use Rattle.words.proofs.Dictionary.{dictionary_same, first_one}
 use Rattle.graph.proofs.Only.{never_first, shows_one}
+use Rattle.verdict.proofs.Refused.{one_number, one_place}
 use Rattle.verdict.proofs.Cleanly.{clean_cleanness, clean≢unclean}
 
 order≢cycle : shape.Order ≡ shape.Cycle → ⊥
@@ -96,7 +94,7 @@ holds_one one {a} {b} h k =
 
 exact_is_one : (log : List ℕ) (e f : ExactWitnessed) → ExactIs log e → ExactIs log f → e ≡ f
 exact_is_one log e f (over n s x) (over m t y) =
-    let z : n ≡ m = cc in
+    let z : n ≡ m = one_place (sym s ∙ t) in
     x ∙ ap (λ (k : ℕ). record { exactness = Over k; list = zeros witness_buffer }) z ∙ sym y
 exact_is_one log e f (over n s x) (searched a t y h) = let z : ◌≡◌ {A = ℕ} 0 1 = cc in absurd (omega arith)
 exact_is_one log e f (searched a s x h) (over m t y) = let z : ◌≡◌ {A = ℕ} 0 1 = cc in absurd (omega arith)
@@ -106,34 +104,40 @@ exact_is_one log e f (searched a s x h) (searched b t y k) =
     let list : e.list ≡ f.list = ap (λ (w : Witnessed). w.list) same in
     λ i. record { exactness = said i; list = list i }
 
--- `judge` has one answer
-pub judge_one : (log : List ℕ) {i j : Judgement} → JudgeAnswer log i → JudgeAnswer log j → i ≡ j
-judge_one log (refused n p g e) (refused m q h f) = let x : n ≡ m = cc in let y : p ≡ q = cc in e ∙ ap (λ (k : ℕ). refused_alone k p) x ∙ ap (refused_alone m) y ∙ sym f
-judge_one log (refused n p g e) (judged h k) = let z : ◌≡◌ {A = ℕ} 0 1 = cc in absurd (omega arith)
-judge_one log (judged h k) (refused n p g e) = let z : ◌≡◌ {A = ℕ} 0 1 = cc in absurd (omega arith)
-judge_one log {i} {j} (judged g h) (judged k l) =
-    let a : i.checked ≡ j.checked = h.passed ∙ sym l.passed in
+-- `judge` has one answer: equal verdicts, and so equal results
+judges_one : (log : List ℕ) {i j : Judgement} → Judges log i → Judges log j → i ≡ j
+judges_one log {i} {j} h l =
     let b : i.clean ≡ j.clean = h.clean_is ∙ sym l.clean_is in
     let c : i.snapshot ≡ j.snapshot = h.snapshot_is ∙ sym l.snapshot_is in
     let d : i.conflict ≡ j.conflict = holds_one (λ o u p q. conflict_one p q) h.conflict_is l.conflict_is in
     let e : i.version ≡ j.version = holds_one (λ o u p q. version_one p q) h.version_is l.version_is in
     let f : i.exact ≡ j.exact = exact_is_one log _ _ h.exact_is l.exact_is in
-    λ t. record { checked = a t; clean = b t; snapshot = c t; conflict = d t; version = e t; exact = f t }
+    λ t. record { clean = b t; snapshot = c t; conflict = d t; version = e t; exact = f t }
+
+pub judge_one : (log : List ℕ) {r s : Result Judgement Refusal} → JudgeAnswer log r → JudgeAnswer log s → r ≡ s
+judge_one log (refused n p g e) (refused m q h f) =
+    let same = sym g ∙ h in
+    let x = one_number same in
+    let y = one_place same in
+    e ∙ ap (λ (k : ℕ). Refused k p) x ∙ ap (Refused m) y ∙ sym f
+judge_one log (refused n p g e) (judged j h x k) = let z : ◌≡◌ {A = ℕ} 0 1 = cc in absurd (omega arith)
+judge_one log (judged j h x k) (refused n p g e) = let z : ◌≡◌ {A = ℕ} 0 1 = cc in absurd (omega arith)
+judge_one log (judged i g x h) (judged j k y l) = x ∙ ap Ok (judges_one log h l) ∙ sym y
 
 -- what a call answers and leaves is one, where one refusal is given and its verdict allows one answer
-pub call_one : {A R : Type 0} {applies : Checked → Type 0} {away : ℕ → ℕ → R} {verdict : A → Type 0} {says : A → R} {leaves : A → List (List ℕ)} {lent : List (List ℕ)}
-    → ((f g : Checked) → applies f → applies g → f ≡ g) → ((a b : A) → verdict a → verdict b → a ≡ b) → {r s : R} {left left' : List (List ℕ)}
-    → Call applies away verdict says leaves lent r left → Call applies away verdict says leaves lent s left' → (r ≡ s) × (left ≡ left')
-call_one {away} sole one (turned_away n p e x y) (turned_away m q g u v) =
+pub call_one : {A R : Type 0} {applies : Checked → Type 0} {verdict : A → Type 0} {says : A → R} {leaves : A → List (List ℕ)} {lent : List (List ℕ)}
+    → ((f g : Checked) → applies f → applies g → f ≡ g) → ((a b : A) → verdict a → verdict b → a ≡ b) → {r s : Result R Refusal} {left left' : List (List ℕ)}
+    → Call applies verdict says leaves lent r left → Call applies verdict says leaves lent s left' → (r ≡ s) × (left ≡ left')
+call_one sole one (turned_away n p e x y) (turned_away m q g u v) =
     let h : Refused n p ≡ Refused m q = sole _ _ e g in
-    let i : n ≡ m = cc in
-    let j : p ≡ q = cc in
-    (x ∙ ap (λ (z : ℕ). away z p) i ∙ ap (away m) j ∙ sym u, y ∙ sym v)
+    let i = one_number h in
+    let j = one_place h in
+    (x ∙ ap (λ (z : ℕ). Refused z p) i ∙ ap (Refused m) j ∙ sym u, y ∙ sym v)
 call_one sole one (turned_away n p e x y) (answered a g h u v) = let i : Refused n p ≡ Passed = sole _ _ e g in let k : ◌≡◌ {A = ℕ} 0 1 = cc in absurd (omega arith)
 call_one sole one (answered a g h u v) (turned_away n p e x y) = let i : Refused n p ≡ Passed = sole _ _ e g in let k : ◌≡◌ {A = ℕ} 0 1 = cc in absurd (omega arith)
 call_one {says} {leaves} sole one (answered a g h u v) (answered b g' h' u' v') =
     let z : a ≡ b = one a b h h' in
-    (u ∙ ap says z ∙ sym u', v ∙ ap leaves z ∙ sym v')
+    (u ∙ ap (λ (k : _). Ok (says k)) z ∙ sym u', v ∙ ap leaves z ∙ sym v')
 
 -- EACH ENTRY POINT: ITS ANSWER, ITS WORK AREA AND ITS WITNESS
 -- equal buffers, one by one
@@ -144,18 +148,18 @@ pub buffers_one : {v w x y : List ℕ} → v ∷ x ∷ [] ≡ w ∷ y ∷ [] →
 buffers_one e = (cc, cc)
 
 module _ (log : List ℕ) {work : List ℕ} where
-  pub clean_call_one : {r s : CleanAnswer} {v w : List ℕ} → CleanCall log work r v → CleanCall log work s w → (r ≡ s) × (v ≡ w)
+  pub clean_call_one : {r s : Result Cleanness Refusal} {v w : List ℕ} → CleanCall log work r v → CleanCall log work s w → (r ≡ s) × (v ≡ w)
   clean_call_one p q = let e = call_one (λ f g h k. h ∙ sym k) (λ a b h k. h ∙ sym k) p q in (e.0, buffer_one e.1)
 
-  pub snapshot_call_one : {r s : SnapshotAnswer} {v w : List ℕ} → SnapshotCall log work r v → SnapshotCall log work s w → (r ≡ s) × (v ≡ w)
+  pub snapshot_call_one : {r s : Result Snapshot Refusal} {v w : List ℕ} → SnapshotCall log work r v → SnapshotCall log work s w → (r ≡ s) × (v ≡ w)
   snapshot_call_one p q = let e = call_one (λ f g h k. h ∙ sym k) (λ a b h k. h ∙ sym k) p q in (e.0, buffer_one e.1)
 
 -- the calls with a witness, where the verdict allows one answer
 pub witness_call_one : (refusal : Checked) {verdict : Outcome → Type 0} {work witness : List ℕ} → ((a b : Outcome) → verdict a → verdict b → a ≡ b)
-    → {r s : WitnessAnswer} {v w x y : List ℕ} → WitnessCall refusal verdict work witness r v x → WitnessCall refusal verdict work witness s w y → (r ≡ s) × (v ≡ w) × (x ≡ y)
+    → {r s : Result Answer Refusal} {v w x y : List ℕ} → WitnessCall refusal verdict work witness r v x → WitnessCall refusal verdict work witness s w y → (r ≡ s) × (v ≡ w) × (x ≡ y)
 witness_call_one refusal one p q = let e = call_one (λ f g h k. h ∙ sym k) one p q in let f = buffers_one e.1 in (e.0, f.0, f.1)
 
-module _ (log : List ℕ) {work witness : List ℕ} {r s : WitnessAnswer} {v w x y : List ℕ} where
+module _ (log : List ℕ) {work witness : List ℕ} {r s : Result Answer Refusal} {v w x y : List ℕ} where
   pub conflict_call_one : ConflictCall log work witness r v x → ConflictCall log work witness s w y → (r ≡ s) × (v ≡ w) × (x ≡ y)
   conflict_call_one = witness_call_one _ (λ a b h k. conflict_one h k)
 

@@ -1,4 +1,5 @@
 -- Which number is the first that applies, and what the limits' constructors tell.
+use Rattle.std.specs.Prelude.{Result, Ok, Err}
 use mathlib.Core.Path.{◌≡◌, refl, ap, ◌∙◌}
 use mathlib.Core.Bool.{Bool, true, false, true≢false, false≢true}
 use mathlib.Core.Logic.{◌⊎◌, inl, inr}
@@ -6,12 +7,28 @@ use Prim.Native.Nat.{ℕ, zero, suc, ◌+◌, ◌<◌}
 use native.Mathlib.Omega.{arith}
 use native.Mathlib.Nat.{not-suc-le-zero}
 use native.Mathlib.Numerals.{add-one}
-use Rattle.words.specs.Tests.{◌is◌, ◌below◌, fails, provided◌then◌else◌}
-use Rattle.words.proofs.Truth.{decide, →isnt, below→, not_below→}
-use Rattle.verdict.specs.declared.answers.Checked.{Checked}
-use Rattle.verdict.specs.declared.answers.Checked.TheVariants.{Passed, Refused}
+use Rattle.words.specs.Tests.{◌below◌, provided◌then◌else◌}
+use Rattle.words.proofs.Truth.{decide, below→, not_below→}
+use Rattle.verdict.specs.Answers.{Refusal, Checked, Passed, Refused}
 use Rattle.verdict.specs.Refusal.{◌at◌when◌, ◌else_try◌, tried}
-use Rattle.verdict.specs.Inner.Checking.{numbered}
+
+-- equal refusals have one number and one place
+number_of : {A : Type 0} → Result A Refusal → ℕ
+number_of (Ok _) = 0
+number_of (Err e) = e.0
+
+place_of : {A : Type 0} → Result A Refusal → ℕ
+place_of (Ok _) = 0
+place_of (Err e) = e.1
+
+module _ {n p m q : ℕ} where
+  pub one_number : Refused {A = Unit {0}} n p ≡ Refused m q → n ≡ m
+  unfolding number_of
+  one_number e = ap number_of e
+
+  pub one_place : Refused {A = Unit {0}} n p ≡ Refused m q → p ≡ q
+  unfolding place_of
+  one_place e = ap place_of e
 
 -- a number whose test passes, or fails
 pub when_yes : (n p : ℕ) {b : Bool} → b ≡ true → (n at p when b) ≡ Refused n p
@@ -44,48 +61,27 @@ tried_passed s e = ap (λ (z : Checked). z else_try s) e
 -- what is tried last where nothing applies, and what is tried after two that are tried as one
 pub try_none : (a : Checked) → (a else_try Passed) ≡ a
 unfolding ◌else_try◌
-try_none Passed = refl
-try_none (Refused n p) = refl
+try_none (Ok _) = refl
+try_none (Err _) = refl
 
 pub try_last : (a b s : Checked) → ((a else_try b) else_try s) ≡ (a else_try b else_try s)
 unfolding ◌else_try◌
-try_last Passed b s = refl
-try_last (Refused n p) b s = refl
+try_last (Ok _) b s = refl
+try_last (Err _) b s = refl
 
 -- what is tried after two others is tried after both
 pub try_more : (a b l s : Checked) → (a else_try b else_try l else_try s) ≡ ((a else_try b else_try l) else_try s)
 unfolding ◌else_try◌
-try_more (Refused n p) b l s = refl
-try_more Passed (Refused n p) l s = refl
-try_more Passed Passed (Refused n p) s = refl
-try_more Passed Passed Passed s = refl
+try_more (Err _) b l s = refl
+try_more (Ok _) (Err _) l s = refl
+try_more (Ok _) (Ok _) (Err _) s = refl
+try_more (Ok _) (Ok _) (Ok _) s = refl
 
 -- .. and after three
 pub try_more_3 : (a b o l s : Checked) → (a else_try b else_try o else_try l else_try s) ≡ ((a else_try b else_try o else_try l) else_try s)
 unfolding ◌else_try◌
-try_more_3 (Refused n p) b o l s = refl
-try_more_3 Passed b o l s = try_more b o l s
-
--- a number, 0 standing for none
-pub numbered_some : (n p : ℕ) → (n ≡ 0 → ⊥) → numbered n p ≡ Refused n p
-unfolding numbered fails
-numbered_some n p h = rw (→isnt h) (when_yes n p refl)
-
-pub numbered_none : (n p : ℕ) → n ≡ 0 → numbered n p ≡ Passed
-unfolding numbered ◌at◌when◌ fails ◌is◌
-numbered_none n p h = rw h refl
-
--- .. before a refusal that is tried only where there is none
-pub numbered_first : (n p : ℕ) {f : Checked} (r : Checked) → numbered n p ≡ f → (n ≡ 0 → ⊥) → numbered n p ≡ f else_try r
-unfolding ◌else_try◌
-numbered_first n p r e h = numbered_some n p h ∙ ap (λ (z : Checked). z else_try r) (sym_some e)
-  where
-    sym_some : {f : Checked} → numbered n p ≡ f → Refused n p ≡ f
-    sym_some q = rw (← numbered_some n p h) q
-
-pub numbered_then : (n p : ℕ) {f r : Checked} → numbered n p ≡ f → n ≡ 0 → f else_try r ≡ r
-unfolding ◌else_try◌
-numbered_then n p {f} {r} e h = ap (λ (z : Checked). z else_try r) (rw e at (numbered_none n p h))
+try_more_3 (Err _) b o l s = refl
+try_more_3 (Ok _) b o l s = try_more b o l s
 
 -- one place more
 pub tried_next : (i : ℕ) (f : ℕ → Checked) → tried (i + 1) f ≡ (tried i f else_try f i)

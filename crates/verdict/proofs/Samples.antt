@@ -1,4 +1,5 @@
 -- The sample logs of 01 that are marked to be proved: one table, one computed equation, and what it means at each entry.
+use Rattle.std.specs.Prelude.{Ok, Err}
 use mathlib.Core.Path.{◌≡◌, refl, sym, ap, ◌∙◌}
 use mathlib.Core.List.{List, [], ◌∷◌, map}
 use mathlib.Core.Option.{Option, none, some as just}
@@ -15,8 +16,7 @@ use Rattle.verdict.specs.Reason.{Entry, first_object, first_kind, leading, leadi
 use Rattle.verdict.specs.Outcome.{order, cycle, Outcome, unclean}
 use Rattle.verdict.specs.Limits.{transactions}
 use Rattle.verdict.specs.Log.{steps, kind, tx, obj, src, begins, reads, writes, commits, aborts, committed, aborted, writer, write_one_object, begin_step, commit_step, commits_writer, committed_count, begun, ended, wrote}
-use Rattle.verdict.specs.declared.answers.Checked.{Checked}
-use Rattle.verdict.specs.declared.answers.Checked.TheVariants.{Passed, Refused}
+use Rattle.verdict.specs.Answers.{Checked, Passed, Refused}
 use Rattle.verdict.specs.Refusal.{◌at◌when◌, ◌else_try◌, tried, object_allowed, source_allowed, range_refusal, life_refusal, source_refusal, step_refusal, open_refusal, log_refusal}
 use Rattle.verdict.specs.declared.answers.Fault.{Fault}
 use Rattle.verdict.specs.declared.answers.Fault.TheVariants.{Own, Aborted, Unfinal}
@@ -76,15 +76,15 @@ pub record Sample : Type 0 where
   pub expected : Expected
 
 unfoldable pub next_by : Checked → Outcome → Option Outcome
-next_by Passed n = just n
-next_by (Refused number place) n = none
+next_by (Ok _) n = just n
+next_by (Err _) n = none
 
 unfoldable pub next_after : List ℕ → List ℕ → Option Outcome
 next_after log given = next_by (list_refusal transactions log given) (judge_next transactions log (up_to_zero given))
 
 unfoldable pub outcome_by : Checked → List ℕ → List (List ℕ) → Expected
-outcome_by (Refused n place) log given = turned_away n place
-outcome_by Passed log given =
+outcome_by (Err e) log given = turned_away e.0 e.1
+outcome_by (Ok _) log given =
     answered (cleanness log) (snapshot_verdict transactions log) (judge_conflict transactions log) (judge_version transactions log) (judge_exact transactions log)
     (orders transactions log (explains transactions log)) (orders transactions log (explains_loosely transactions log)) (map (λ v. next_after log (handed v)) given)
 
@@ -236,8 +236,8 @@ outcome_means s {cl} {sn} {co} {ve} {ex} {li} {lo} {ne} e = go (log_refusal s.lo
     log = s.log
 
     go : (o : Checked) → log_refusal log ≡ o → outcome_by o log s.handed_in ≡ answered cl sn (just co) (just ve) ex li lo ne → Means log cl sn co ve ex li lo
-    go (Refused n p) h f = let z : ◌≡◌ {A = ℕ} 0 1 = cc in absurd (omega arith)
-    go Passed h f =
+    go (Err _) h f = let z : ◌≡◌ {A = ℕ} 0 1 = cc in absurd (omega arith)
+    go (Ok _) h f =
         let z : judge_exact transactions log ≡ ex = cc in
         let u : orders transactions log (explains transactions log) ≡ li = cc in
         let v : orders transactions log (explains_loosely transactions log) ≡ lo = cc in
@@ -258,8 +258,8 @@ unfolding outcome outcome_by
 refused_means s n place e = go (log_refusal s.log) e
   where
     go : (o : Checked) → outcome_by o s.log s.handed_in ≡ turned_away n place → o ≡ Refused n place
-    go (Refused m p) f = cc
-    go Passed f = let z : ◌≡◌ {A = ℕ} 0 1 = cc in absurd (omega arith)
+    go (Err e) f = let x : e.0 ≡ n = cc in let y : e.1 ≡ place = cc in ap (λ (k : ℕ). Refused k e.1) x ∙ ap (Refused n) y
+    go (Ok _) f = let z : ◌≡◌ {A = ℕ} 0 1 = cc in absurd (omega arith)
 
 -- an order handed in that is on the list gets the answer that "next" asks for
 pub next_means : (log given : List ℕ) (n : Outcome) → next_after log given ≡ just n → (list_refusal transactions log given ≡ Passed) × Next transactions log (up_to_zero given) n
@@ -268,8 +268,8 @@ next_means log given n e = go (list_refusal transactions log given) refl e
   where
     go : (o : Checked) → list_refusal transactions log given ≡ o → next_by o (judge_next transactions log (up_to_zero given)) ≡ just n
         → (list_refusal transactions log given ≡ Passed) × Next transactions log (up_to_zero given) n
-    go Passed h f = let z : judge_next transactions log (up_to_zero given) ≡ n = cc in (h, rw z at (next_right transactions log (up_to_zero given)))
-    go (Refused m p) h f = let z : ◌≡◌ {A = ℕ} 0 1 = cc in absurd (omega arith)
+    go (Ok _) h f = let z : judge_next transactions log (up_to_zero given) ≡ n = cc in (h, rw z at (next_right transactions log (up_to_zero given)))
+    go (Err _) h f = let z : ◌≡◌ {A = ℕ} 0 1 = cc in absurd (omega arith)
 
 -- the log that 01 prints, entry 1 of the table, for whoever prints its report
 pub printed_means :

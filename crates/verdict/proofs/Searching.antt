@@ -20,7 +20,7 @@ use Rattle.bits.specs.Word.{marked}
 use Rattle.bits.proofs.Marks.{mark_below}
 use Rattle.verdict.specs.Limits.{transactions, witness_buffer, most_searched}
 use Rattle.verdict.specs.Log.{committed_count}
-use Rattle.verdict.specs.declared.answers.Checked.TheVariants.{Passed, Refused}
+use Rattle.verdict.specs.Answers.{Passed, Refused}
 use Rattle.verdict.specs.Refusal.{log_refusal, search_refusal}
 use Rattle.verdict.specs.Clean.{is_clean}
 use Rattle.verdict.specs.Replay.{explains_loosely}
@@ -28,7 +28,7 @@ use Rattle.verdict.specs.Exact.{Exact, exact, exact_none}
 use Rattle.verdict.specs.Inner.Placing.{ran, CommittedList, Placed, Searched, found, missed}
 use Rattle.verdict.specs.declared.answers.Answer.TheVariants.{Order}
 use Rattle.verdict.specs.declared.answers.Witnessed.{Witnessed}
-use Rattle.verdict.proofs.Refused.{when_yes, when_no}
+use Rattle.verdict.proofs.Refused.{one_place, when_yes, when_no}
 use Rattle.verdict.proofs.Cleanly.{clean_cleanness}
 use Rattle.verdict.proofs.WellFormed.{refused≢passed, when→, well_formed}
 use Rattle.verdict.proofs.Counted.{committed_fit}
@@ -94,8 +94,7 @@ search_13 log {n} {p} e = go (decide (most_searched below committed_count log))
     go : ((most_searched below committed_count log) ≡ true) ⊎ ((most_searched below committed_count log) ≡ false) → search_refusal log ≡ Refused 13 p
     go (inl b) =
         let f : Refused 13 (committed_count log) ≡ Refused n p = sym (when_yes 13 (committed_count log) b) ∙ e in
-        let g : committed_count log ≡ p = cc in
-        when_yes 13 (committed_count log) b ∙ ap (Refused 13) g
+        when_yes 13 (committed_count log) b ∙ ap (Refused 13) (one_place f)
     go (inr b) = absurd (refused≢passed (sym e ∙ when_no 13 (committed_count log) b))
 
 pub search_few : (log : List ℕ) → search_refusal log ≡ Passed → committed_count log ≤ most_searched

@@ -14,7 +14,7 @@ use Rattle.verdict.specs.Refusal.{source_refusal}
 use Rattle.verdict.specs.Clean.{after_own_write}
 use Rattle.verdict.specs.Inner.Checking.{InRange}
 use Rattle.verdict.specs.Inner.WriteTable.{Versions}
-use Rattle.verdict.specs.declared.answers.Checked.TheVariants.{Passed, Refused}
+use Rattle.verdict.specs.Answers.{Passed, Refused}
 use Rattle.verdict.proofs.WellFormed.{tx_within, object_within, source_within}
 use Rattle.verdict.proofs.Numbers.{never_wrote, source_there}
 

@@ -1,4 +1,5 @@
 -- What is known of a log that no number turns away.
+use Rattle.std.specs.Prelude.{Ok, Err}
 use mathlib.Core.Path.{◌≡◌, refl, sym, subst, ◌∙◌}
 use mathlib.Core.Bool.{Bool, true, false}
 use mathlib.Core.Logic.{◌⊎◌, inl, inr, ⊎_elim}
@@ -10,15 +11,14 @@ use lib.ListN.{length}
 use Rattle.words.specs.Tests.{◌is◌, ◌below◌, ◌upto◌, ◌and◌, ◌or◌, fails}
 use Rattle.verdict.specs.Limits.{transactions, objects, most_steps}
 use Rattle.verdict.specs.Log.{steps, kind, tx, obj, src, commits, aborts, writer, begun, ended, wrote}
-use Rattle.verdict.specs.declared.answers.Checked.{Checked}
-use Rattle.verdict.specs.declared.answers.Checked.TheVariants.{Passed, Refused}
+use Rattle.verdict.specs.Answers.{Checked, Passed, Refused}
 use Rattle.verdict.specs.Refusal.{◌at◌when◌, ◌else_try◌, tried, object_allowed, source_allowed, range_refusal, life_refusal, source_refusal, step_refusal, open_refusal, log_refusal}
 use Rattle.verdict.specs.Inner.Checking.{InRange}
 use Rattle.words.proofs.Truth.{decide, not_both, to_true, to_false, and→, →and, or→, →or_left, →or_right, →fails, not_fails→, is→, →is, →isnt, upto→, below→, not_below→, some→, →some, provided_true, provided_false}
 
 HasPassed : Checked → Type 0
-HasPassed Passed = Unit {0}
-HasPassed (Refused n p) = ⊥
+HasPassed (Ok _) = Unit {0}
+HasPassed (Err _) = ⊥
 
 pub refused≢passed : {n p : ℕ} → Refused n p ≡ Passed → ⊥
 unfolding HasPassed
@@ -26,8 +26,8 @@ refused≢passed e = subst HasPassed (sym e) tt
 
 pub else_try→ : {a b : Checked} → (a else_try b) ≡ Passed → (a ≡ Passed) × (b ≡ Passed)
 unfolding ◌else_try◌
-else_try→ {a = Passed} {b} h = (refl, h)
-else_try→ {a = Refused n p} {b} h = absurd (refused≢passed h)
+else_try→ {a = Ok _} {b} h = (refl, h)
+else_try→ {a = Err _} {b} h = absurd (refused≢passed h)
 
 pub when→ : (n p : ℕ) (b : Bool) → (n at p when b) ≡ Passed → b ≡ false
 unfolding ◌at◌when◌

@@ -1,5 +1,5 @@
 -- What `judge` answers: all five verdicts of a well_formed log, with their members by value, or the refusal.
-use Rattle.std.specs.Prelude.{◌≡◌, List, ℕ}
+use Rattle.std.specs.Prelude.{◌≡◌, List, ℕ, Result, Ok}
 use Rattle.words.specs.Lists.{zeros}
 use Rattle.verdict.specs.Limits.{transactions, witness_buffer}
 use Rattle.verdict.specs.Refusal.{log_refusal, search_refusal}
@@ -10,7 +10,7 @@ use Rattle.verdict.specs.Witness.{witness}
 use Rattle.verdict.specs.Conflict.{Conflict}
 use Rattle.verdict.specs.Version.{Version}
 use Rattle.verdict.specs.Exact.{Exact}
-use Rattle.verdict.specs.Answers.{Passed, Refused, Cleanness, Snapshot, Answer, None, Over, Searched, Witnessed, ExactWitnessed, Judgement}
+use Rattle.verdict.specs.Answers.{Refusal, Passed, Refused, Answer, Over, Searched, Witnessed, ExactWitnessed, Judgement}
 
 -- an answer by value that the verdict allows: its list is the witness
 pub record Holds (verdict : Outcome → Type 0) (a : Witnessed) : Type 0 where
@@ -27,25 +27,13 @@ pub data ExactIs (log : List ℕ) (e : ExactWitnessed) : Type 0 where
 
 -- each verdict is the log's
 pub record Judges (log : List ℕ) (j : Judgement) : Type 0 where
-  pub passed : j.checked ≡ Passed
   pub clean_is : j.clean ≡ cleanness log
   pub snapshot_is : j.snapshot ≡ snapshot_verdict transactions log
   pub conflict_is : Holds (Conflict transactions log) j.conflict
   pub version_is : Holds (Version transactions log) j.version
   pub exact_is : ExactIs log j.exact
 
--- a refusal alone: the verdicts beside it say nothing
-unfoldable pub refused_alone : ℕ → ℕ → Judgement
-refused_alone number place =
-    record {
-      checked = Refused number place;
-      clean = Cleanness.Yes;
-      snapshot = Snapshot.Yes;
-      conflict = record { answer = None; list = zeros witness_buffer };
-      version = record { answer = None; list = zeros witness_buffer };
-      exact = record { exactness = Searched None; list = zeros witness_buffer };
-    }
-
-pub data JudgeAnswer (log : List ℕ) (j : Judgement) : Type 0 where
-  refused : (number place : ℕ) → log_refusal log ≡ Refused number place → j ≡ refused_alone number place → JudgeAnswer log j
-  judged : log_refusal log ≡ Passed → Judges log j → JudgeAnswer log j
+-- the refusal, or the five verdicts
+pub data JudgeAnswer (log : List ℕ) (r : Result Judgement Refusal) : Type 0 where
+  refused : (number place : ℕ) → log_refusal log ≡ Refused number place → r ≡ Refused number place → JudgeAnswer log r
+  judged : (j : Judgement) → log_refusal log ≡ Passed → r ≡ Ok j → Judges log j → JudgeAnswer log r

@@ -1,9 +1,9 @@
 -- The limits of transactions, objects, logs and lent buffers. Each is written here and, in the code, at the type that it limits.
-use Rattle.std.specs.Prelude.{ℕ}
+use Rattle.std.specs.Prelude.{ℕ, Option, None, Some}
 use Rattle.words.specs.Tests.{◌below◌, ◌upto◌, ◌and◌, provided◌then◌else◌}
-use Rattle.verdict.specs.declared.limits.MadeTransaction.{MadeTransaction}
-use Rattle.verdict.specs.declared.limits.MadeObject.{MadeObject}
-use Rattle.verdict.specs.declared.limits.MadeLog.{MadeLog}
+use Rattle.verdict.specs.declared.limits.Transaction.{Transaction}
+use Rattle.verdict.specs.declared.limits.Object.{Object}
+use Rattle.verdict.specs.declared.limits.Log.{Log}
 
 -- transactions are 1..128
 abbrev pub transactions : ℕ
@@ -32,11 +32,11 @@ abbrev pub most_searched : ℕ
 most_searched = 8
 
 -- what the code's constructors make of a number
-unfoldable pub make_transaction : ℕ → MadeTransaction
-make_transaction n = provided 1 upto n and n upto transactions then MadeTransaction.Within (record { number = n }) else MadeTransaction.Beyond
+unfoldable pub make_transaction : ℕ → Option Transaction
+make_transaction n = provided 1 upto n and n upto transactions then Some (record { number = n }) else None
 
-unfoldable pub make_object : ℕ → MadeObject
-make_object n = provided n below objects then MadeObject.Within (record { number = n }) else MadeObject.Beyond
+unfoldable pub make_object : ℕ → Option Object
+make_object n = provided n below objects then Some (record { number = n }) else None
 
-unfoldable pub make_log : ℕ → MadeLog
-make_log n = provided n upto most_steps then MadeLog.Within (record { steps = n }) else MadeLog.Beyond
+unfoldable pub make_log : ℕ → Option Log
+make_log n = provided n upto most_steps then Some (record { steps = n }) else None

@@ -1,5 +1,5 @@
 -- The numbers that turn a call away, each with its place: the first that applies, in the order of 01's table.
-use Rattle.std.specs.Prelude.{Bool, true, false, List, ℕ, zero, suc, ◌%◌, length}
+use Rattle.std.specs.Prelude.{Bool, true, false, List, ℕ, zero, suc, ◌%◌, length, Ok, Err}
 use Rattle.words.specs.Tests.{◌is◌, ◌below◌, ◌upto◌, ◌and◌, ◌or◌, fails, provided◌then◌else◌}
 use Rattle.verdict.specs.Limits.{transactions, objects, most_steps, witness_buffer, order_entries, work_bytes, most_searched}
 use Rattle.verdict.specs.Log.{steps, kind, tx, obj, src, begun, ended, wrote, committed_count}
@@ -14,8 +14,8 @@ n at place when false = Passed
 
 -- the first of two that applies
 unfoldable pub ◌else_try◌ : Checked → Checked → Checked
-Passed else_try r = r
-(Refused n place) else_try r = Refused n place
+(Ok _) else_try r = r
+(Err refusal) else_try r = Err refusal
 
 -- the first that applies at 0, 1, 2 .. below n
 unfoldable pub tried : ℕ → (ℕ → Checked) → Checked

@@ -1,12 +1,9 @@
 // What the judge answers. Each answer is one type, used by the code and by the statements alike.
 use crate::limits::Transaction;
 
-// What looking for a refusal finds: none applies, or the number that turns the call away and its place.
-#[derive(Clone, Copy)]
-pub enum Checked {
-    Passed,
-    Refused(u16, usize),
-}
+// A refusal: the number that turns a call away, and its place.
+#[derive(Clone, Copy, PartialEq, Eq)]
+pub struct Refusal(pub u16, pub usize);
 
 // What is wrong with a read, and at which step.
 #[derive(Clone, Copy)]
@@ -69,31 +66,9 @@ pub struct ExactWitnessed {
     pub list: [u16; Transaction::WITNESS],
 }
 
-// What a call of the clean verdict answers: a refusal with its number and its place, or the verdict.
-#[derive(Clone, Copy)]
-pub enum CleanAnswer {
-    Refused(u16, usize),
-    Judged(Cleanness),
-}
-
-// What a call of the snapshot verdict answers.
-#[derive(Clone, Copy)]
-pub enum SnapshotAnswer {
-    Refused(u16, usize),
-    Judged(Snapshot),
-}
-
-// What a call of a verdict with a witness answers, and of "next".
-#[derive(Clone, Copy)]
-pub enum WitnessAnswer {
-    Refused(u16, usize),
-    Judged(Answer),
-}
-
-// All five verdicts of a log, or its refusal. Beside a refusal the verdicts say nothing.
+// All five verdicts of a log.
 #[derive(Clone, Copy)]
 pub struct Judgement {
-    pub checked: Checked,
     pub clean: Cleanness,
     pub snapshot: Snapshot,
     pub conflict: Witnessed,

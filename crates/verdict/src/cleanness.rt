@@ -8,9 +8,9 @@ ghost use Rattle.verdict.specs.Clean.{fault_step, own_fault, source_fault, clean
 ghost use Rattle.verdict.specs.Call.{CleanCall};
 ghost use Rattle.verdict.specs.Inner.Marks.{Committed};
 ghost use Rattle.verdict.specs.Inner.WriteTable.{WritesFrom};
-ghost use Rattle.verdict.specs.declared.answers.Checked.TheVariants.{Passed};
+ghost use Rattle.verdict.specs.Answers.{Passed};
 
-use crate::answers::{Checked, CleanAnswer, Cleanness, Fault};
+use crate::answers::{Cleanness, Fault, Refusal};
 use crate::edges::takes_part;
 use crate::leaving::clear;
 use crate::limits::Transaction;
@@ -93,19 +93,12 @@ pub(crate) fn judge_clean(log: &[u16], part: &[u64; graph::WORDS], own: usize) -
 }
 
 // The clean verdict: yes, or the lowest faulty step with its fault.
-pub fn clean(log: &[u16], work: &mut [u8]) -> CleanAnswer
+pub fn clean(log: &[u16], work: &mut [u8]) -> Result<Cleanness, Refusal>
     ensures { CleanCall log.now work.old result work.new }
 {
-    let admitted = admit(log, work.len());
-    let checked = admitted.checked;
-    match checked {
-        Checked::Refused(number, place) => CleanAnswer::Refused(number, place),
-        Checked::Passed => {
-            clear(work);
-            let part = admitted.part;
-            CleanAnswer::Judged(judge_clean(log, &part, admitted.own))
-        }
-    }
+    let found = admit(log, work.len())?;
+    clear(work);
+    Ok(judge_clean(log, &found.part, found.own))
 }
 
 // The step of a fault.

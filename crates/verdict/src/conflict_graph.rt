@@ -9,9 +9,9 @@ ghost use Rattle.verdict.specs.Call.{ConflictCall};
 ghost use Rattle.verdict.specs.Inner.Marks.{Committed};
 ghost use Rattle.verdict.specs.Inner.Edges.{no_edge, Drawn};
 ghost use Rattle.verdict.specs.Inner.ConflictEdges.{earlier_touch, Touches, Touched, conflicts_until};
-ghost use Rattle.verdict.specs.declared.answers.Checked.TheVariants.{Passed};
+ghost use Rattle.verdict.specs.Answers.{Passed};
 
-use crate::answers::{Checked, WitnessAnswer, Witnessed};
+use crate::answers::{Answer, Refusal, Witnessed};
 use crate::conflict_reasons::conflict_cycle;
 use crate::edges::takes_part;
 use crate::entries::an_order;
@@ -110,16 +110,9 @@ pub(crate) fn judge_conflict(log: &[u16], part: [u64; graph::WORDS]) -> Witnesse
 }
 
 // The conflict verdict: the first order that keeps every edge, or the first shortest cycle with its reasons.
-pub fn conflict(log: &[u16], work: &mut [u8], witness: &mut [u16]) -> WitnessAnswer
+pub fn conflict(log: &[u16], work: &mut [u8], witness: &mut [u16]) -> Result<Answer, Refusal>
     ensures { ConflictCall log.now work.old witness.old result work.new witness.new }
 {
-    let admitted = admit_witness(log, work.len(), witness.len());
-    let checked = admitted.checked;
-    match checked {
-        Checked::Refused(number, place) => WitnessAnswer::Refused(number, place),
-        Checked::Passed => {
-            let part = admitted.part;
-            leave(work, witness, judge_conflict(log, part))
-        }
-    }
+    let found = admit_witness(log, work.len(), witness.len())?;
+    Ok(leave(work, witness, judge_conflict(log, found.part)))
 }

@@ -12,7 +12,7 @@ ghost use Rattle.verdict.specs.Inner.Marks.{Committed};
 ghost use Rattle.verdict.specs.Inner.Reasons.{by_value, Ring, Best};
 ghost use Rattle.verdict.specs.Inner.ConflictEdges.{touched_row};
 ghost use Rattle.verdict.specs.Inner.ConflictReasons.{with_earlier};
-ghost use Rattle.verdict.specs.declared.answers.Checked.TheVariants.{Passed};
+ghost use Rattle.verdict.specs.Answers.{Passed};
 
 use crate::answers::Witnessed;
 use crate::edges::takes_part;

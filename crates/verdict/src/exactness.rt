@@ -10,11 +10,9 @@ ghost use Rattle.verdict.specs.Call.{ExactCall};
 ghost use Rattle.verdict.specs.Inner.Checking.{Learned};
 ghost use Rattle.verdict.specs.Inner.Marks.{Committed};
 ghost use Rattle.verdict.specs.Inner.WriteTable.{WriteTable};
-ghost use Rattle.verdict.specs.declared.answers.Checked.TheVariants.{Passed};
+ghost use Rattle.verdict.specs.Answers.{Passed};
 
-use crate::answers::{
-    Answer, Checked, Cleanness, ExactWitnessed, Exactness, WitnessAnswer, Witnessed,
-};
+use crate::answers::{Answer, Cleanness, ExactWitnessed, Exactness, Refusal, Witnessed};
 use crate::cleanness::judge_clean;
 use crate::leaving::{exact_without_members, leave, without_members};
 use crate::limits::Transaction;
@@ -39,14 +37,14 @@ fn judge_search(
 }
 
 // 13, where more are committed than the search takes.
-fn admit_search(log: &[u16]) -> Checked
+fn admit_search(log: &[u16]) -> Result<(), Refusal>
     ensures { result ≡ search_refusal log.now }
 {
     let n = committed_count(log);
     if Transaction::SEARCHED < n {
-        return Checked::Refused(13, n);
+        return Err(Refusal(13, n));
     }
-    Checked::Passed
+    Ok(())
 }
 
 // The exact verdict of a well-formed log, by the same: over, where more are committed than the search takes.
@@ -60,7 +58,7 @@ pub(crate) fn judge_exact(
     ensures { ExactIs log.now result }
 {
     let admitted = admit_search(log);
-    if let Checked::Refused(_, n) = admitted {
+    if let Err(Refusal(_, n)) = admitted {
         return exact_without_members(Exactness::Over(n));
     }
     let found = judge_search(log, clean, part, writes);
@@ -84,17 +82,10 @@ fn exact_learned(log: &[u16], found: Examined) -> Witnessed
 }
 
 // The exact verdict: the fault of an unclean read, or else the first order that explains loosely, or none.
-pub fn exact(log: &[u16], work: &mut [u8], witness: &mut [u16]) -> WitnessAnswer
+pub fn exact(log: &[u16], work: &mut [u8], witness: &mut [u16]) -> Result<Answer, Refusal>
     ensures { ExactCall log.now work.old witness.old result work.new witness.new }
 {
-    let admitted = admit_witness(log, work.len(), witness.len());
-    let refused = admitted.checked;
-    if let Checked::Refused(number, place) = refused {
-        return WitnessAnswer::Refused(number, place);
-    }
-    let searched = admit_search(log);
-    if let Checked::Refused(number, place) = searched {
-        return WitnessAnswer::Refused(number, place);
-    }
-    leave(work, witness, exact_learned(log, admitted))
+    let found = admit_witness(log, work.len(), witness.len())?;
+    admit_search(log)?;
+    Ok(leave(work, witness, exact_learned(log, found)))
 }

@@ -13,23 +13,16 @@ ghost use Rattle.verdict.specs.Inner.Marks.{Committed};
 ghost use Rattle.verdict.specs.Inner.Edges.{Drawn};
 ghost use Rattle.verdict.specs.Inner.Following.{Split, Brings, Comes};
 ghost use Rattle.verdict.specs.Inner.NextWriters.{NextWriters};
-ghost use Rattle.verdict.specs.declared.answers.Checked.TheVariants.{Passed, Refused};
+ghost use Rattle.verdict.specs.Answers.{Passed, Refused};
 
-use crate::answers::{Answer, Checked, Cleanness, WitnessAnswer, Witnessed};
+use crate::answers::{Answer, Cleanness, Refusal, Witnessed};
 use crate::cleanness::judge_clean;
 use crate::entries::an_order;
 use crate::leaving::{leave, without_members};
 use crate::limits::{Log, Transaction};
-use crate::refusal::{Examined, examine, turned_away};
+use crate::refusal::{Examined, examine};
 use crate::tables::next_writers;
 use crate::version_graph::draw;
-
-// What comes after an order: 14 where it is not on the list, or the next order, or none.
-#[derive(Clone, Copy)]
-pub struct Following {
-    pub checked: Checked,
-    pub found: Witnessed,
-}
 
 // How many numbers stand before the first 0.
 fn count_members(order: &[u16]) -> usize
@@ -60,14 +53,7 @@ pub fn all_zero(order: &[u16], k: usize) -> bool
 }
 
 // An order that is not on the list.
-fn not_listed() -> Following
-    ensures { result.checked ≡ Refused 14 0 }
-{
-    Following {
-        checked: Checked::Refused(14, 0),
-        found: without_members(Answer::None),
-    }
-}
+const NOT_LISTED: Refusal = Refusal(14, 0);
 
 // The next order that graph finds, as an answer.
 fn bring(matrix: &[u64; graph::ROWS], part: [u64; graph::WORDS], order: &[u16]) -> Witnessed
@@ -90,21 +76,18 @@ fn follow(
     matrix: &[u64; graph::ROWS],
     part: [u64; graph::WORDS],
     order: &[u16],
-) -> Following
+) -> Result<Witnessed, Refusal>
     requires { (log_refusal log.now ≡ Passed) × (is_clean log.now ≡ true) × Committed log.now part × Drawn (version_edge log.now) matrix.now }
     ensures { Comes log.now order.now result }
 {
     let k = count_members(order);
     if !all_zero(order, k) {
-        return not_listed();
+        return Err(NOT_LISTED);
     }
     if !graph::keeps(matrix, part, &order[..k]) {
-        return not_listed();
+        return Err(NOT_LISTED);
     }
-    Following {
-        checked: Checked::Passed,
-        found: bring(matrix, part, &order[..k]),
-    }
+    Ok(bring(matrix, part, &order[..k]))
 }
 
 // The next order in the version graph of a clean log, or 14, by who committed and the writers of the next versions.
@@ -113,7 +96,7 @@ fn in_version_graph(
     part: [u64; graph::WORDS],
     next: &[u8; Transaction::PAIRS],
     order: &[u16],
-) -> Following
+) -> Result<Witnessed, Refusal>
     requires { (log_refusal log.now ≡ Passed) × (is_clean log.now ≡ true) × Committed log.now part × NextWriters log.now next.now }
     ensures { Comes log.now order.now result }
 {
@@ -123,53 +106,47 @@ fn in_version_graph(
 }
 
 // What comes after an order that is handed in with a well-formed log, by what the check learned.
-fn after_order(log: &[u16], found: Examined, order: &[u16]) -> Following
+fn after_order(log: &[u16], found: Examined, order: &[u16]) -> Result<Witnessed, Refusal>
     requires { (log_refusal log.now ≡ Passed) × Learned log.now found }
     ensures { Comes log.now order.now result }
 {
-    let earlier = found.earlier;
-    let writes = found.writes;
     let part = found.part;
     let clean = judge_clean(log, &part, found.own);
     if let Cleanness::Unclean(_) = clean {
-        return not_listed();
+        return Err(NOT_LISTED);
     }
     let mut next = [0u8; Transaction::PAIRS];
-    next_writers(log, &writes, &earlier, &mut next);
+    next_writers(log, &found.writes, &found.earlier, &mut next);
     in_version_graph(log, part, &next, order)
 }
 
 // 12 where a buffer or the order handed in has a wrong length, and then what the check finds.
-fn admit_order(log: &[u16], work: usize, witness: usize, order: usize) -> Examined
+fn admit_order(log: &[u16], work: usize, witness: usize, order: usize) -> Result<Examined, Refusal>
     ensures { Examines log.now (12 at 0 when fails (work is work_bytes) else_try 12 at 0 when fails (witness is witness_buffer)
         else_try 12 at 0 when fails (order is order_entries) else_try log_refusal log.now) result }
 {
     if work != Log::WORK {
-        return turned_away(12, 0);
+        return Err(Refusal(12, 0));
     }
     if witness != Transaction::WITNESS {
-        return turned_away(12, 0);
+        return Err(Refusal(12, 0));
     }
     if order != Transaction::COUNT {
-        return turned_away(12, 0);
+        return Err(Refusal(12, 0));
     }
     examine(log)
 }
 
 // The first explaining order that comes later than the one handed in, or none.
-pub fn next(log: &[u16], order: &[u16], work: &mut [u8], witness: &mut [u16]) -> WitnessAnswer
+pub fn next(
+    log: &[u16],
+    order: &[u16],
+    work: &mut [u8],
+    witness: &mut [u16],
+) -> Result<Answer, Refusal>
     ensures { NextCall log.now order.now work.old witness.old result work.new witness.new }
 {
-    let admitted = admit_order(log, work.len(), witness.len(), order.len());
-    let refused = admitted.checked;
-    if let Checked::Refused(number, place) = refused {
-        return WitnessAnswer::Refused(number, place);
-    }
-    let following = after_order(log, admitted, order);
-    let checked = following.checked;
-    let found = following.found;
-    match checked {
-        Checked::Refused(number, place) => WitnessAnswer::Refused(number, place),
-        Checked::Passed => leave(work, witness, found),
-    }
+    let found = admit_order(log, work.len(), witness.len(), order.len())?;
+    let later = after_order(log, found, order)?;
+    Ok(leave(work, witness, later))
 }

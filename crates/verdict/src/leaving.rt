@@ -4,7 +4,7 @@ ghost use Rattle.words.specs.Lists.{zeros};
 ghost use Rattle.verdict.specs.Limits.{witness_buffer};
 ghost use Rattle.verdict.specs.Inner.Leaving.{Leaves};
 
-use crate::answers::{Answer, ExactWitnessed, Exactness, WitnessAnswer, Witnessed};
+use crate::answers::{Answer, ExactWitnessed, Exactness, Witnessed};
 use crate::limits::Transaction;
 
 // All bytes of the work area become 0.
@@ -29,7 +29,7 @@ fn lay(witness: &mut [u16], list: &[u16; Transaction::WITNESS])
 }
 
 // Clears the work area, lays the entries into the witness, and says the answer.
-pub(crate) fn leave(work: &mut [u8], witness: &mut [u16], found: Witnessed) -> WitnessAnswer
+pub(crate) fn leave(work: &mut [u8], witness: &mut [u16], found: Witnessed) -> Answer
     requires { length witness.old ≡ witness_buffer }
     ensures { Leaves work.old found result work.new witness.new }
 {
@@ -37,7 +37,7 @@ pub(crate) fn leave(work: &mut [u8], witness: &mut [u16], found: Witnessed) -> W
     let list = found.list;
     clear(work);
     lay(witness, &list);
-    WitnessAnswer::Judged(answer)
+    answer
 }
 
 // An answer without members.

@@ -31,7 +31,7 @@ pub use conflict_graph::conflict;
 pub use exactness::exact;
 pub use following::{all_zero, next};
 pub use leaving::clear;
-pub use limits::{Log, MadeLog, MadeObject, MadeTransaction, Object, Transaction};
+pub use limits::{Log, Object, Transaction};
 pub use reasons::{RW, WR, WW};
 pub use refusal::check;
 pub use snapshots::snapshot;

@@ -8,13 +8,6 @@ pub struct Transaction {
     pub number: u16,
 }
 
-// What making a transaction of a number gives.
-#[derive(Clone, Copy)]
-pub enum MadeTransaction {
-    Within(Transaction),
-    Beyond,
-}
-
 impl Transaction {
     pub const LIMIT: u16 = 128;
 
@@ -34,16 +27,16 @@ impl Transaction {
     pub const PAIRS: usize = Transaction::TABLE * Object::TABLE;
 
     // The transaction of this number, which is 1 to the limit.
-    pub fn of(number: u16) -> MadeTransaction
+    pub fn of(number: u16) -> Option<Transaction>
         ensures { result ≡ make_transaction number }
     {
         if number < 1 {
-            return MadeTransaction::Beyond;
+            return None;
         }
         if Transaction::LIMIT < number {
-            return MadeTransaction::Beyond;
+            return None;
         }
-        MadeTransaction::Within(Transaction { number })
+        Some(Transaction { number })
     }
 }
 
@@ -53,13 +46,6 @@ pub struct Object {
     pub number: u16,
 }
 
-// What making an object of a number gives.
-#[derive(Clone, Copy)]
-pub enum MadeObject {
-    Within(Object),
-    Beyond,
-}
-
 impl Object {
     pub const LIMIT: u16 = 64;
 
@@ -67,13 +53,13 @@ impl Object {
     pub const TABLE: usize = Object::LIMIT as usize;
 
     // The object of this number, which is below the limit.
-    pub fn of(number: u16) -> MadeObject
+    pub fn of(number: u16) -> Option<Object>
         ensures { result ≡ make_object number }
     {
         if number < Object::LIMIT {
-            return MadeObject::Within(Object { number });
+            return Some(Object { number });
         }
-        MadeObject::Beyond
+        None
     }
 }
 
@@ -83,13 +69,6 @@ pub struct Log {
     pub steps: usize,
 }
 
-// What making a log of so many steps gives.
-#[derive(Clone, Copy)]
-pub enum MadeLog {
-    Within(Log),
-    Beyond,
-}
-
 impl Log {
     pub const LIMIT: usize = 1024;
 
@@ -97,12 +76,12 @@ impl Log {
     pub const WORK: usize = 16384;
 
     // A log of so many steps, which are at most the limit.
-    pub fn of(steps: usize) -> MadeLog
+    pub fn of(steps: usize) -> Option<Log>
         ensures { result ≡ make_log steps }
     {
         if steps <= Log::LIMIT {
-            return MadeLog::Within(Log { steps });
+            return Some(Log { steps });
         }
-        MadeLog::Beyond
+        None
     }
 }

@@ -9,7 +9,7 @@ ghost use Rattle.verdict.specs.Inner.Checking.{InRange};
 ghost use Rattle.verdict.specs.Inner.Marks.{Committed};
 ghost use Rattle.verdict.specs.Inner.OwnReads.{misses};
 ghost use Rattle.verdict.specs.Inner.WriteTable.{Versions};
-ghost use Rattle.verdict.specs.declared.answers.Checked.TheVariants.{Passed};
+ghost use Rattle.verdict.specs.Answers.{Passed};
 
 use crate::edges::takes_part;
 use crate::limits::Transaction;

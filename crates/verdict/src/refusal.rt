@@ -5,20 +5,19 @@ ghost use Rattle.verdict.specs.Limits.{transactions, most_steps, witness_buffer,
 ghost use Rattle.verdict.specs.Log.{steps};
 ghost use Rattle.verdict.specs.Refusal.{◌at◌when◌, ◌else_try◌, tried, step_refusal, open_refusal, log_refusal};
 ghost use Rattle.verdict.specs.Inner.Checking.{open_by_lives, Noted, Walks, Examines};
-ghost use Rattle.verdict.specs.declared.answers.Checked.TheVariants.{Passed, Refused};
+ghost use Rattle.verdict.specs.Answers.{Passed, Refused};
 
-use crate::answers::Checked;
-use crate::limits::{Log, MadeLog, Transaction};
+use crate::answers::Refusal;
+use crate::limits::{Log, Transaction};
 use crate::own_reads::own_fault;
 use crate::taking::take_step;
 use crate::walk::EVERY_OBJECT;
 
-// What the check finds: its answer and, where nothing turns the log away, for each transaction the steps at which it begins and commits (the
-// number of steps, where it does not), whether it committed, who committed before it (entry 0 has the last to commit), and the marks of the objects that
-// it writes; and the first own fault, or the number of steps.
+// What the check learns of a log that nothing turns away: for each transaction the steps at which it begins and commits (the number of steps,
+// where it does not), whether it committed, who committed before it (entry 0 has the last to commit), and the marks of the objects that it
+// writes; and the first own fault, or the number of steps.
 #[derive(Clone, Copy)]
 pub(crate) struct Examined {
-    pub checked: Checked,
     pub begins: [u16; Transaction::TABLE],
     pub commits: [u16; Transaction::TABLE],
     pub part: [u64; graph::WORDS],
@@ -28,43 +27,18 @@ pub(crate) struct Examined {
 }
 
 // 11, at the lowest transaction that is open, by how far each has come.
-fn check_open(lives: &[u8; Transaction::TABLE]) -> Checked
+fn check_open(lives: &[u8; Transaction::TABLE]) -> Result<(), Refusal>
     ensures { result ≡ tried (suc transactions) (open_by_lives lives.now) }
 {
-    let mut t: usize = 0;
-    while t < Transaction::TABLE {
+    for t in 0..Transaction::TABLE {
         if lives[t] == 1 {
-            return Checked::Refused(11, t);
+            return Err(Refusal(11, t));
         }
-        t += 1;
     }
-    Checked::Passed
+    Ok(())
 }
 
-// A refusal, with nothing learned.
-pub(crate) fn turned_away(number: u16, place: usize) -> Examined
-    ensures { result.checked ≡ Refused number place }
-{
-    Examined {
-        checked: Checked::Refused(number, place),
-        begins: [0u16; Transaction::TABLE],
-        commits: [0u16; Transaction::TABLE],
-        part: [0u64; graph::WORDS],
-        earlier: [0u16; Transaction::TABLE],
-        writes: [0u64; Transaction::TABLE],
-        own: 0,
-    }
-}
-
-// What the walk over the steps finds: the first number that turns one away and that step, or 0; and whether a read missed its own write.
-#[derive(Clone, Copy)]
-struct Walked {
-    number: u16,
-    place: usize,
-    missed: bool,
-}
-
-// 3 to 9, step by step, with what is noted carried along.
+// 3 to 9, step by step, with what is noted carried along. Whether a read missed its own write.
 fn walk_steps(
     log: &[u16],
     n: usize,
@@ -74,36 +48,23 @@ fn walk_steps(
     part: &mut [u64; graph::WORDS],
     earlier: &mut [u16; Transaction::TABLE],
     versions: &mut [u64; Transaction::TABLE],
-) -> Walked
+) -> Result<bool, Refusal>
     requires { (n ≡ steps log.now) × (n ≤ most_steps)
         × Noted log.now 0 lives.old begins.old commits.old part.old earlier.old versions.old }
     ensures { Walks log.now result lives.new begins.new commits.new part.new earlier.new versions.new }
 {
     let mut missed = false;
-    let mut i = 0;
-    while i < n {
-        let taken = take_step(log, i, lives, begins, commits, part, earlier, versions);
-        if taken.number != 0 {
-            return Walked {
-                number: taken.number,
-                place: i,
-                missed,
-            };
-        }
-        if taken.missed {
+    for i in 0..n {
+        let misses = take_step(log, i, lives, begins, commits, part, earlier, versions)?;
+        if misses {
             missed = true;
         }
-        i += 1;
     }
-    Walked {
-        number: 0,
-        place: n,
-        missed,
-    }
+    Ok(missed)
 }
 
 // 3 to 9 over all steps, behind the last step 11, and what is learned.
-fn check_steps(log: &[u16], n: usize) -> Examined
+fn check_steps(log: &[u16], n: usize) -> Result<Examined, Refusal>
     requires { (n ≡ steps log.now) × (n ≤ most_steps) }
     ensures { Examines log.now (tried n (step_refusal log.now) else_try tried (suc transactions) (open_refusal log.now)) result }
 {
@@ -115,7 +76,7 @@ fn check_steps(log: &[u16], n: usize) -> Examined
     let mut earlier = [0u16; Transaction::TABLE];
     let mut writes = [0u64; Transaction::TABLE];
     writes[0] = EVERY_OBJECT;
-    let walked = walk_steps(
+    let missed = walk_steps(
         log,
         n,
         &mut lives,
@@ -124,65 +85,62 @@ fn check_steps(log: &[u16], n: usize) -> Examined
         &mut part,
         &mut earlier,
         &mut writes,
-    );
-    if walked.number != 0 {
-        return turned_away(walked.number, walked.place);
-    }
-    let own = own_fault(log, n, &part, walked.missed);
+    )?;
+    let own = own_fault(log, n, &part, missed);
     writes[0] = 0;
-    Examined {
-        checked: check_open(&lives),
+    check_open(&lives)?;
+    Ok(Examined {
         begins,
         commits,
         part,
         earlier,
         writes,
         own,
-    }
+    })
 }
 
 // The first of 1 to 11 that applies, with its place, or that the log is well-formed; and what was learned of a well-formed log.
-pub(crate) fn examine(log: &[u16]) -> Examined
+pub(crate) fn examine(log: &[u16]) -> Result<Examined, Refusal>
     ensures { Examines log.now (log_refusal log.now) result }
 {
     if log.len() % 4 != 0 {
-        return turned_away(1, 0);
+        return Err(Refusal(1, 0));
     }
     let n = log.len() / 4;
     let made = Log::of(n);
-    let MadeLog::Within(_) = made else {
-        return turned_away(2, 0);
+    let Some(_) = made else {
+        return Err(Refusal(2, 0));
     };
     check_steps(log, n)
 }
 
 // The first of 1 to 11 that applies, with its place, or that the log is well-formed.
-pub fn check(log: &[u16]) -> Checked
+pub fn check(log: &[u16]) -> Result<(), Refusal>
     ensures { result ≡ log_refusal log.now }
 {
-    let examined = examine(log);
-    examined.checked
+    examine(log)?;
+    Ok(())
 }
 
 // 12 where the work area has a wrong length, and then what the check finds.
-pub(crate) fn admit(log: &[u16], work: usize) -> Examined
+pub(crate) fn admit(log: &[u16], work: usize) -> Result<Examined, Refusal>
     ensures { Examines log.now (12 at 0 when fails (work is work_bytes) else_try log_refusal log.now) result }
 {
     if work != Log::WORK {
-        return turned_away(12, 0);
+        return Err(Refusal(12, 0));
     }
     examine(log)
 }
 
 // 12 where the work area or the witness has a wrong length, and then what the check finds.
-pub(crate) fn admit_witness(log: &[u16], work: usize, witness: usize) -> Examined
+pub(crate) fn admit_witness(log: &[u16], work: usize, witness: usize) -> Result<Examined, Refusal>
     ensures { Examines log.now (12 at 0 when fails (work is work_bytes) else_try 12 at 0 when fails (witness is witness_buffer) else_try log_refusal log.now) result }
 {
     if work != Log::WORK {
-        return turned_away(12, 0);
+        return Err(Refusal(12, 0));
     }
     if witness != Transaction::WITNESS {
-        return turned_away(12, 0);
+        return Err(Refusal(12, 0));
     }
     examine(log)
 }

@@ -10,7 +10,7 @@ ghost use Rattle.verdict.specs.Exact.{Exact};
 ghost use Rattle.verdict.specs.Inner.Marks.{Committed};
 ghost use Rattle.verdict.specs.Inner.Placing.{needing, allows, may_follow, Needs, NeededOf, CommittedList, placed_of, OneMore, LastAfter, Placed, Searchable, Searched};
 ghost use Rattle.verdict.specs.Inner.WriteTable.{WriteTable};
-ghost use Rattle.verdict.specs.declared.answers.Checked.TheVariants.{Passed};
+ghost use Rattle.verdict.specs.Answers.{Passed};
 
 use crate::answers::{Answer, Witnessed};
 use crate::edges::takes_part;

@@ -14,9 +14,9 @@ ghost use Rattle.verdict.specs.Inner.Marks.{FirstSteps};
 ghost use Rattle.verdict.specs.Inner.NextWriters.{NextWriters};
 ghost use Rattle.verdict.specs.Inner.StaleReads.{stale_read};
 ghost use Rattle.verdict.specs.Inner.WriteTable.{WriteTable};
-ghost use Rattle.verdict.specs.declared.answers.Checked.TheVariants.{Passed};
+ghost use Rattle.verdict.specs.Answers.{Passed};
 
-use crate::answers::{Checked, Snapshot, SnapshotAnswer, Writer};
+use crate::answers::{Refusal, Snapshot, Writer};
 use crate::leaving::clear;
 use crate::limits::{Object, Transaction};
 use crate::refusal::{Examined, admit};
@@ -282,16 +282,10 @@ fn snapshot_learned(log: &[u16], found: Examined) -> Snapshot
 }
 
 // The snapshot verdict: yes, or the lowest wrong step.
-pub fn snapshot(log: &[u16], work: &mut [u8]) -> SnapshotAnswer
+pub fn snapshot(log: &[u16], work: &mut [u8]) -> Result<Snapshot, Refusal>
     ensures { SnapshotCall log.now work.old result work.new }
 {
-    let admitted = admit(log, work.len());
-    let checked = admitted.checked;
-    match checked {
-        Checked::Refused(number, place) => SnapshotAnswer::Refused(number, place),
-        Checked::Passed => {
-            clear(work);
-            SnapshotAnswer::Judged(snapshot_learned(log, admitted))
-        }
-    }
+    let found = admit(log, work.len())?;
+    clear(work);
+    Ok(snapshot_learned(log, found))
 }

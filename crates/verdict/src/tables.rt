@@ -6,7 +6,7 @@ ghost use Rattle.verdict.specs.Log.{steps};
 ghost use Rattle.verdict.specs.Inner.Checking.{CommitOrder};
 ghost use Rattle.verdict.specs.Inner.NextWriters.{NextWriters, PutBefore};
 ghost use Rattle.verdict.specs.Inner.WriteTable.{WriteTable};
-ghost use Rattle.verdict.specs.declared.answers.Checked.TheVariants.{Passed};
+ghost use Rattle.verdict.specs.Answers.{Passed};
 
 use crate::limits::{Object, Transaction};
 use crate::walk::index;

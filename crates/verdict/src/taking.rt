@@ -1,13 +1,14 @@
-// Taking one step of a log: the number that turns it away, or what is noted of it. Each kind has a way of its own, and is told by comparisons alone.
+// Taking one step of a log: the refusal that applies to it, or what is noted of it. Each kind has a way of its own, and is told by comparisons alone.
 ghost use Rattle.std.specs.Prelude.{◌≡◌, ◌⊎◌, ℕ, suc, ◌≤◌, ◌<◌, ◌+◌, ◌*◌, length};
 ghost use Rattle.verdict.specs.Limits.{transactions, most_steps};
 ghost use Rattle.verdict.specs.Log.{steps, kind, tx, obj, src};
 ghost use Rattle.verdict.specs.Refusal.{◌else_try◌, range_refusal, life_refusal, source_refusal, step_refusal};
-ghost use Rattle.verdict.specs.Inner.Checking.{numbered, Asks, in_range, InRange, StepsBefore, InOrder, Lived, Noted, Takes};
+ghost use Rattle.verdict.specs.Inner.Checking.{Asks, Checks, in_range, InRange, StepsBefore, InOrder, Lived, Noted, Takes};
 ghost use Rattle.verdict.specs.Inner.OwnReads.{misses};
 ghost use Rattle.verdict.specs.Inner.WriteTable.{Versions};
 
-use crate::limits::{MadeObject, MadeTransaction, Object, Transaction};
+use crate::answers::Refusal;
+use crate::limits::{Object, Transaction};
 use crate::own_reads::{misses, note_version};
 use crate::step::{Step, step_at};
 use crate::walk::{index, object_marked};
@@ -22,61 +23,56 @@ struct Asked {
     late: u16,
 }
 
-// The first of 4, 5 and 6 that applies, by what the kind asks; 0 if none does.
-fn in_range(t: u16, x: u16, s: u16, asked: Asked) -> u16
-    ensures { (place : ℕ) → numbered result place ≡ in_range place t x s asked }
+// The first of 4, 5 and 6 that applies to step i, by what its kind asks.
+fn in_range(i: usize, t: u16, x: u16, s: u16, asked: Asked) -> Result<(), Refusal>
+    ensures { result ≡ in_range i t x s asked }
 {
     let transaction = Transaction::of(t);
-    let MadeTransaction::Within(_) = transaction else {
-        return 4;
+    let Some(_) = transaction else {
+        return Err(Refusal(4, i));
     };
     let object = Object::of(x);
-    let MadeObject::Within(_) = object else {
-        return 5;
+    let Some(_) = object else {
+        return Err(Refusal(5, i));
     };
     if asked.objects <= x {
-        return 5;
+        return Err(Refusal(5, i));
     }
     if asked.source < s {
-        return 6;
+        return Err(Refusal(6, i));
     }
-    0
+    Ok(())
 }
 
-// The first of 3 to 8 that applies to step i, by what its kind asks and how far each transaction has come before it; 0 if none does.
-fn first_number(log: &[u16], i: usize, lives: &[u8; Transaction::TABLE], asked: Asked) -> u16
+// The first of 3 to 8 that applies to step i, by what its kind asks and how far each transaction has come before it.
+fn first_number(
+    log: &[u16],
+    i: usize,
+    lives: &[u8; Transaction::TABLE],
+    asked: Asked,
+) -> Result<(), Refusal>
     requires { (4 * i + 4 ≤ length log.now) × Lived log.now i lives.now × Asks (kind log.now i) asked }
-    ensures { numbered result i ≡ (range_refusal i (kind log.now i) (tx log.now i) (obj log.now i) (src log.now i) else_try life_refusal log.now i) }
+    ensures { result ≡ (range_refusal i (kind log.now i) (tx log.now i) (obj log.now i) (src log.now i) else_try life_refusal log.now i) }
 {
     let step = step_at(log, i);
-    let range = in_range(step.tx, step.obj, step.src, asked);
-    if range != 0 {
-        return range;
-    }
+    in_range(i, step.tx, step.obj, step.src, asked)?;
     let life = lives[index(step.tx)];
     if life == asked.life {
-        return 0;
+        return Ok(());
     }
-    asked.late
+    Err(Refusal(asked.late, i))
 }
 
-// 9, where it applies to read i, by the versions that are there before it; else 0.
-fn source_number(log: &[u16], i: usize, versions: &[u64; Transaction::TABLE]) -> u16
+// 9, where it applies to read i, by the versions that are there before it.
+fn source_number(log: &[u16], i: usize, versions: &[u64; Transaction::TABLE]) -> Result<(), Refusal>
     requires { (4 * i + 4 ≤ length log.now) × (kind log.now i ≡ 2) × InRange log.now i × Versions log.now i versions.now }
-    ensures { numbered result i ≡ source_refusal log.now i }
+    ensures { result ≡ source_refusal log.now i }
 {
     let step = step_at(log, i);
     if !object_marked(versions, step.src, step.obj) {
-        return 9;
+        return Err(Refusal(9, i));
     }
-    0
-}
-
-// The number that turns a step away, or 0; and whether the step is a read that missed its own write.
-#[derive(Clone, Copy)]
-pub(crate) struct Taken {
-    pub number: u16,
-    pub missed: bool,
+    Ok(())
 }
 
 // A begin: its transaction has not begun.
@@ -85,10 +81,9 @@ fn take_begin(
     i: usize,
     lives: &mut [u8; Transaction::TABLE],
     begins: &mut [u16; Transaction::TABLE],
-) -> u16
+) -> Result<(), Refusal>
     requires { (i < steps log.now) × (steps log.now ≤ most_steps) × (kind log.now i ≡ 1) × Lived log.now i lives.old × StepsBefore log.now 1 i begins.old }
-    ensures { (numbered result i ≡ step_refusal log.now i)
-        × (result ≡ 0 → Lived log.now (i + 1) lives.new × StepsBefore log.now 1 (i + 1) begins.new) }
+    ensures { Checks (step_refusal log.now i) (λ _. Lived log.now (i + 1) lives.new × StepsBefore log.now 1 (i + 1) begins.new) result }
 {
     let asked = Asked {
         objects: 1,
@@ -96,26 +91,23 @@ fn take_begin(
         life: 0,
         late: 7,
     };
-    let number = first_number(log, i, lives, asked);
-    if number != 0 {
-        return number;
-    }
+    first_number(log, i, lives, asked)?;
     let step = step_at(log, i);
     let t = index(step.tx);
     lives[t] = 1;
     begins[t] = i as u16;
-    0
+    Ok(())
 }
 
-// A read, of an open transaction as all that follow.
+// A read, of an open transaction as all that follow. Whether it missed its own write.
 fn take_read(
     log: &[u16],
     i: usize,
     lives: &[u8; Transaction::TABLE],
     versions: &[u64; Transaction::TABLE],
-) -> Taken
+) -> Result<bool, Refusal>
     requires { (i < steps log.now) × (kind log.now i ≡ 2) × Lived log.now i lives.now × Versions log.now i versions.now }
-    ensures { (numbered result.number i ≡ step_refusal log.now i) × (result.number ≡ 0 → result.missed ≡ misses log.now i) }
+    ensures { Checks (step_refusal log.now i) (λ missed. missed ≡ misses log.now i) result }
 {
     let asked = Asked {
         objects: Object::LIMIT,
@@ -123,18 +115,9 @@ fn take_read(
         life: 1,
         late: 8,
     };
-    let number = first_number(log, i, lives, asked);
-    if number != 0 {
-        return Taken {
-            number,
-            missed: false,
-        };
-    }
-    let missed = misses(log, i, versions);
-    Taken {
-        number: source_number(log, i, versions),
-        missed,
-    }
+    first_number(log, i, lives, asked)?;
+    source_number(log, i, versions)?;
+    Ok(misses(log, i, versions))
 }
 
 // A write.
@@ -143,10 +126,9 @@ fn take_write(
     i: usize,
     lives: &[u8; Transaction::TABLE],
     versions: &mut [u64; Transaction::TABLE],
-) -> u16
+) -> Result<(), Refusal>
     requires { (i < steps log.now) × (kind log.now i ≡ 3) × Lived log.now i lives.now × Versions log.now i versions.old × (length versions.old ≡ suc transactions) }
-    ensures { (numbered result i ≡ step_refusal log.now i)
-        × (result ≡ 0 → Versions log.now (i + 1) versions.new × (length versions.new ≡ suc transactions)) }
+    ensures { Checks (step_refusal log.now i) (λ _. Versions log.now (i + 1) versions.new × (length versions.new ≡ suc transactions)) result }
 {
     let asked = Asked {
         objects: Object::LIMIT,
@@ -154,39 +136,34 @@ fn take_write(
         life: 1,
         late: 8,
     };
-    let number = first_number(log, i, lives, asked);
-    if number != 0 {
-        return number;
-    }
+    first_number(log, i, lives, asked)?;
     note_version(log, i, versions);
-    0
+    Ok(())
 }
 
-// A read or a write.
+// A read or a write. Whether it is a read that missed its own write.
 fn take_touch(
     log: &[u16],
     i: usize,
     lives: &[u8; Transaction::TABLE],
     versions: &mut [u64; Transaction::TABLE],
-) -> Taken
+) -> Result<bool, Refusal>
     requires { (i < steps log.now) × (2 ≤ kind log.now i) × (kind log.now i ≤ 3) × Lived log.now i lives.now × Versions log.now i versions.old × (length versions.old ≡ suc transactions) }
-    ensures { (numbered result.number i ≡ step_refusal log.now i)
-        × (result.number ≡ 0 → Versions log.now (i + 1) versions.new × (length versions.new ≡ suc transactions) × (result.missed ≡ misses log.now i)) }
+    ensures { Checks (step_refusal log.now i)
+        (λ missed. Versions log.now (i + 1) versions.new × (length versions.new ≡ suc transactions) × (missed ≡ misses log.now i)) result }
 {
     let step = step_at(log, i);
     if step.kind == Step::READ {
         return take_read(log, i, lives, versions);
     }
-    Taken {
-        number: take_write(log, i, lives, versions),
-        missed: false,
-    }
+    take_write(log, i, lives, versions)?;
+    Ok(false)
 }
 
 // An end, by commit or abort.
-fn take_end(log: &[u16], i: usize, lives: &mut [u8; Transaction::TABLE]) -> u16
+fn take_end(log: &[u16], i: usize, lives: &mut [u8; Transaction::TABLE]) -> Result<(), Refusal>
     requires { (i < steps log.now) × ((kind log.now i ≡ 4) ⊎ (kind log.now i ≡ 5)) × Lived log.now i lives.old }
-    ensures { (numbered result i ≡ step_refusal log.now i) × (result ≡ 0 → Lived log.now (i + 1) lives.new) }
+    ensures { Checks (step_refusal log.now i) (λ _. Lived log.now (i + 1) lives.new) result }
 {
     let asked = Asked {
         objects: 1,
@@ -194,14 +171,11 @@ fn take_end(log: &[u16], i: usize, lives: &mut [u8; Transaction::TABLE]) -> u16
         life: 1,
         late: 8,
     };
-    let number = first_number(log, i, lives, asked);
-    if number != 0 {
-        return number;
-    }
+    first_number(log, i, lives, asked)?;
     let step = step_at(log, i);
     let t = index(step.tx);
     lives[t] = 2;
-    0
+    Ok(())
 }
 
 // A commit: an end, and who commits is noted.
@@ -212,22 +186,18 @@ fn take_commit(
     commits: &mut [u16; Transaction::TABLE],
     part: &mut [u64; graph::WORDS],
     earlier: &mut [u16; Transaction::TABLE],
-) -> u16
+) -> Result<(), Refusal>
     requires { (i < steps log.now) × (steps log.now ≤ most_steps) × (kind log.now i ≡ 4) × Lived log.now i lives.old × InOrder log.now i commits.old part.old earlier.old }
-    ensures { (numbered result i ≡ step_refusal log.now i)
-        × (result ≡ 0 → Lived log.now (i + 1) lives.new × InOrder log.now (i + 1) commits.new part.new earlier.new) }
+    ensures { Checks (step_refusal log.now i) (λ _. Lived log.now (i + 1) lives.new × InOrder log.now (i + 1) commits.new part.new earlier.new) result }
 {
-    let number = take_end(log, i, lives);
-    if number != 0 {
-        return number;
-    }
+    take_end(log, i, lives)?;
     let step = step_at(log, i);
     let t = index(step.tx);
     commits[t] = i as u16;
     *part = graph::with_vertex(*part, t);
     earlier[t] = earlier[0];
     earlier[0] = t as u16;
-    0
+    Ok(())
 }
 
 // A commit or an abort: the last step of its transaction.
@@ -238,10 +208,9 @@ fn take_last(
     commits: &mut [u16; Transaction::TABLE],
     part: &mut [u64; graph::WORDS],
     earlier: &mut [u16; Transaction::TABLE],
-) -> u16
+) -> Result<(), Refusal>
     requires { (i < steps log.now) × (steps log.now ≤ most_steps) × (4 ≤ kind log.now i) × (kind log.now i ≤ 5) × Lived log.now i lives.old × InOrder log.now i commits.old part.old earlier.old }
-    ensures { (numbered result i ≡ step_refusal log.now i)
-        × (result ≡ 0 → Lived log.now (i + 1) lives.new × InOrder log.now (i + 1) commits.new part.new earlier.new) }
+    ensures { Checks (step_refusal log.now i) (λ _. Lived log.now (i + 1) lives.new × InOrder log.now (i + 1) commits.new part.new earlier.new) result }
 {
     let step = step_at(log, i);
     if step.kind == Step::COMMIT {
@@ -250,7 +219,7 @@ fn take_last(
     take_end(log, i, lives)
 }
 
-// Step i, by what is noted of the steps before it. Two arms take two kinds each: with an arm for each kind the match becomes one jump through a table, which a
+// Step i, by what is noted of the steps before it: the refusal that applies, or whether it is a read that missed its own write. Two arms take two kinds each: with an arm for each kind the match becomes one jump through a table, which a
 // processor guesses worse than comparisons where kinds follow no rule.
 pub(crate) fn take_step(
     log: &[u16],
@@ -261,25 +230,22 @@ pub(crate) fn take_step(
     part: &mut [u64; graph::WORDS],
     earlier: &mut [u16; Transaction::TABLE],
     versions: &mut [u64; Transaction::TABLE],
-) -> Taken
+) -> Result<bool, Refusal>
     requires { (i < steps log.now) × (steps log.now ≤ most_steps) × Noted log.now i lives.old begins.old commits.old part.old earlier.old versions.old }
     ensures { Takes log.now i result lives.new begins.new commits.new part.new earlier.new versions.new }
 {
     let step = step_at(log, i);
     let kind = step.kind;
     match kind {
-        Step::BEGIN => Taken {
-            number: take_begin(log, i, lives, begins),
-            missed: false,
-        },
+        Step::BEGIN => {
+            take_begin(log, i, lives, begins)?;
+            Ok(false)
+        }
         Step::READ | Step::WRITE => take_touch(log, i, lives, versions),
-        Step::COMMIT | Step::ABORT => Taken {
-            number: take_last(log, i, lives, commits, part, earlier),
-            missed: false,
-        },
-        _ => Taken {
-            number: 3,
-            missed: false,
-        },
+        Step::COMMIT | Step::ABORT => {
+            take_last(log, i, lives, commits, part, earlier)?;
+            Ok(false)
+        }
+        _ => Err(Refusal(3, i)),
     }
 }

@@ -13,9 +13,9 @@ ghost use Rattle.verdict.specs.Inner.Edges.{no_edge, EdgeAdded, Drawn};
 ghost use Rattle.verdict.specs.Inner.NextWriters.{NextWriters};
 ghost use Rattle.verdict.specs.Inner.VersionEdges.{versions_until};
 ghost use Rattle.verdict.specs.Inner.Checking.{Learned};
-ghost use Rattle.verdict.specs.declared.answers.Checked.TheVariants.{Passed};
+ghost use Rattle.verdict.specs.Answers.{Passed};
 
-use crate::answers::{Answer, Checked, Cleanness, WitnessAnswer, Witnessed};
+use crate::answers::{Answer, Cleanness, Refusal, Witnessed};
 use crate::cleanness::judge_clean;
 use crate::edges::{join, takes_part};
 use crate::entries::an_order;
@@ -115,23 +115,17 @@ fn version_learned(log: &[u16], found: Examined) -> Witnessed
     requires { (log_refusal log.now ≡ Passed) × Learned log.now found }
     ensures { Holds (Version transactions log.now) result }
 {
-    let earlier = found.earlier;
-    let writes = found.writes;
     let part = found.part;
     let clean = judge_clean(log, &part, found.own);
     let mut next = [0u8; Transaction::PAIRS];
-    next_writers(log, &writes, &earlier, &mut next);
+    next_writers(log, &found.writes, &found.earlier, &mut next);
     judge_version(log, clean, part, &next)
 }
 
 // The version verdict: the fault of an unclean read, or else the first order that keeps every edge, or the first shortest cycle with its reasons.
-pub fn version(log: &[u16], work: &mut [u8], witness: &mut [u16]) -> WitnessAnswer
+pub fn version(log: &[u16], work: &mut [u8], witness: &mut [u16]) -> Result<Answer, Refusal>
     ensures { VersionCall log.now work.old witness.old result work.new witness.new }
 {
-    let admitted = admit_witness(log, work.len(), witness.len());
-    let checked = admitted.checked;
-    match checked {
-        Checked::Refused(number, place) => WitnessAnswer::Refused(number, place),
-        Checked::Passed => leave(work, witness, version_learned(log, admitted)),
-    }
+    let found = admit_witness(log, work.len(), witness.len())?;
+    Ok(leave(work, witness, version_learned(log, found)))
 }

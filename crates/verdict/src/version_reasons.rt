@@ -11,7 +11,7 @@ ghost use Rattle.verdict.specs.Inner.Marks.{Committed};
 ghost use Rattle.verdict.specs.Inner.NextWriters.{NextWriters};
 ghost use Rattle.verdict.specs.Inner.Reasons.{by_value, with_edge, Ring, Before, Best};
 ghost use Rattle.verdict.specs.Inner.VersionReasons.{version_until};
-ghost use Rattle.verdict.specs.declared.answers.Checked.TheVariants.{Passed};
+ghost use Rattle.verdict.specs.Answers.{Passed};
 
 use crate::answers::Witnessed;
 use crate::edges::takes_part;

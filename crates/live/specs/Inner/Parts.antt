@@ -1,6 +1,6 @@
 -- What the private functions that take a part promise.
 use Rattle.std.specs.Prelude.{◌≡◌, List, map, ℕ, ◌≤◌, length}
-use Rattle.verdict.specs.declared.answers.Checked.TheVariants.{Passed, Refused}
+use Rattle.verdict.specs.Answers.{Passed, Refused}
 use Rattle.live.specs.Answers.{answer_number}
 use Rattle.live.specs.SoFar.{numbers}
 use Rattle.live.specs.Says.{State, all_says, after_all}

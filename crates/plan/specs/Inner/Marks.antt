@@ -5,7 +5,7 @@ use Rattle.words.specs.Lists.{member, all, distinct}
 use Rattle.verdict.specs.Log.{commits, committed}
 use Rattle.verdict.specs.Next.{up_to_zero}
 use Rattle.verdict.specs.Inner.Following.{Split}
-use Rattle.verdict.specs.declared.answers.Checked.TheVariants.{Passed, Refused}
+use Rattle.verdict.specs.Answers.{Passed, Refused}
 use Rattle.plan.specs.Proposal.{proposes, proposal_refusal}
 use Rattle.plan.specs.declared.members.Members.{Members}
 use Rattle.plan.specs.declared.refusal.Proposed.{Proposed}

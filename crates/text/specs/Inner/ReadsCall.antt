@@ -1,6 +1,6 @@
 -- A call that reads a text, where `applies` says which refusal applies: for the functions that read from the header on.
 use Rattle.std.specs.Prelude.{List, [], ◌∷◌, ℕ}
-use Rattle.verdict.specs.declared.answers.Checked.{Checked}
+use Rattle.verdict.specs.Answers.{Checked}
 use Rattle.verdict.specs.Call.{Call}
 use Rattle.text.specs.Reading.{Says}
 use Rattle.text.specs.ReadCall.{said_steps, leaves_steps}

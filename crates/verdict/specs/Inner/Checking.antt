@@ -1,5 +1,5 @@
 -- The check of a log, walked once: which number applies to a step, what is noted before it, and what is learned in the end.
-use Rattle.std.specs.Prelude.{◌≡◌, true, false, List, ℕ, zero, suc, ◌+◌, ◌≤◌, ◌<◌, length, get_or}
+use Rattle.std.specs.Prelude.{◌≡◌, Bool, true, false, List, ℕ, zero, suc, ◌+◌, ◌≤◌, ◌<◌, length, get_or, Result, Err, MatchResult}
 use Rattle.words.specs.Tests.{◌is◌, ◌below◌, ◌upto◌, ◌and◌, fails, provided◌then◌else◌, some, lowest}
 use Rattle.graph.specs.Matrix.{takes_part}
 use Rattle.verdict.specs.Limits.{transactions, objects}
@@ -10,15 +10,12 @@ use Rattle.verdict.specs.Inner.Marks.{does, Committed, FirstSteps}
 use Rattle.verdict.specs.Inner.WriteTable.{Versions, WriteTable}
 use Rattle.verdict.specs.Inner.OwnReads.{misses}
 use Rattle.verdict.specs.declared.refusal.Examined.{Examined}
-use Rattle.verdict.specs.declared.refusal.Walked.{Walked}
 use Rattle.verdict.specs.declared.taking.Asked.{Asked}
-use Rattle.verdict.specs.declared.taking.Taken.{Taken}
-use Rattle.verdict.specs.declared.answers.Checked.{Checked}
-use Rattle.verdict.specs.declared.answers.Checked.TheVariants.{Passed}
+use Rattle.verdict.specs.Answers.{Refusal, Checked, Passed}
 
--- the refusal with number n, where 0 stands for none
-unfoldable pub numbered : ℕ → ℕ → Checked
-numbered n place = n at place when fails (n is 0)
+-- what a check answers: the refusal that applies, or that none does, and then what it learned
+abbrev pub Checks : {A : Type 0} → Checked → (A → Type 0) → Result A Refusal → Type 0
+Checks refusal learned r = MatchResult r (λ x. (refusal ≡ Passed) × learned x) (λ e. refusal ≡ Err e)
 
 -- what a kind asks: the object and the source of a step of kind k, how far its transaction has come, and the number of a step whose transaction has not
 pub record Asks (k : ℕ) (r : Asked) : Type 0 where
@@ -87,17 +84,16 @@ module _ (log : List ℕ) where
       pub has_written : Versions log i writes
       pub writes_size : length writes ≡ suc transactions
 
-  -- what taking step i finds: the number that turns it away, or what is noted behind it and whether it misses its own write
-  pub record Takes (i : ℕ) (r : Taken) (lives begins commits part earlier writes : List ℕ) : Type 0 where
-    pub says : numbered r.number i ≡ step_refusal log i
-    pub noted : r.number ≡ 0 → Noted (i + 1) lives begins commits part earlier writes
-    pub told : r.number ≡ 0 → r.missed ≡ misses log i
+  -- what taking step i finds: the refusal that applies to it, or what is noted behind it and whether it misses its own write
+  abbrev pub Takes : (i : ℕ) → Result Bool Refusal → (lives begins commits part earlier writes : List ℕ) → Type 0
+  Takes i r lives begins commits part earlier writes =
+      Checks (step_refusal log i) (λ missed. Noted (i + 1) lives begins commits part earlier writes × (missed ≡ misses log i)) r
 
-  -- what the walk over all steps finds: the number that turns one away, or what is noted behind the last and whether one misses its own write
-  pub record Walks (r : Walked) (lives begins commits part earlier writes : List ℕ) : Type 0 where
-    pub says : numbered r.number r.place ≡ tried (steps log) (step_refusal log)
-    pub noted : r.number ≡ 0 → Noted (steps log) lives begins commits part earlier writes
-    pub some_missed : r.number ≡ 0 → r.missed ≡ some (steps log) (misses log)
+  -- what the walk over all steps finds: the refusal that applies to one, or what is noted behind the last and whether one misses its own write
+  abbrev pub Walks : Result Bool Refusal → (lives begins commits part earlier writes : List ℕ) → Type 0
+  Walks r lives begins commits part earlier writes =
+      Checks (tried (steps log) (step_refusal log))
+      (λ missed. Noted (steps log) lives begins commits part earlier writes × (missed ≡ some (steps log) (misses log))) r
 
   -- what the check of a well_formed log learns
   pub record Learned (r : Examined) : Type 0 where
@@ -108,7 +104,6 @@ module _ (log : List ℕ) where
     pub marks : WriteTable log r.writes
     pub first_own : r.own ≡ lowest (steps log) (own_fault log)
 
-  -- what is found of a log: its refusal, and what is learned where there is none
-  pub record Examines (refusal : Checked) (r : Examined) : Type 0 where
-    pub says : r.checked ≡ refusal
-    pub learned : refusal ≡ Passed → Learned r
+  -- what is found of a log: its refusal, or what is learned of it
+  abbrev pub Examines : Checked → Result Examined Refusal → Type 0
+  Examines refusal = Checks refusal Learned

@@ -1,14 +1,13 @@
 -- The order handed to "next", and what comes after it.
-use Rattle.std.specs.Prelude.{◌≡◌, List, ℕ, ◌≤◌, length, take, drop}
+use Rattle.std.specs.Prelude.{◌≡◌, List, ℕ, ◌≤◌, length, take, drop, Result}
 use Rattle.words.specs.First.{dictionary, First, Never, later}
 use Rattle.graph.specs.Matrix.{matrix_order}
 use Rattle.verdict.specs.Limits.{transactions}
 use Rattle.verdict.specs.Outcome.{Outcome, order, none}
 use Rattle.verdict.specs.Judgement.{Holds}
 use Rattle.verdict.specs.Next.{Next, up_to_zero, from_zero, list_refusal}
-use Rattle.verdict.specs.declared.answers.Checked.TheVariants.{Passed, Refused}
-use Rattle.verdict.specs.declared.answers.Witnessed.{Witnessed}
-use Rattle.verdict.specs.declared.following.Following.{Following}
+use Rattle.verdict.specs.Answers.{Refusal, Witnessed}
+use Rattle.verdict.specs.Inner.Checking.{Checks}
 
 -- r numbers of an order handed in stand before the first 0
 pub record Split (handed_in : List ℕ) (r : ℕ) : Type 0 where
@@ -25,6 +24,5 @@ abbrev pub Brings : (m part v : List ℕ) → Witnessed → Type 0
 Brings m part v = Holds (LaterOrder m part v)
 
 -- what comes after an order that is handed in with a well_formed log: 14, or the next order
-pub data Comes (log handed_in : List ℕ) (f : Following) : Type 0 where
-  not_listed : list_refusal transactions log handed_in ≡ Refused 14 0 → f.checked ≡ Refused 14 0 → Comes log handed_in f
-  follows : list_refusal transactions log handed_in ≡ Passed → f.checked ≡ Passed → Holds (Next transactions log (up_to_zero handed_in)) f.found → Comes log handed_in f
+abbrev pub Comes : (log handed_in : List ℕ) → Result Witnessed Refusal → Type 0
+Comes log handed_in = Checks (list_refusal transactions log handed_in) (Holds (Next transactions log (up_to_zero handed_in)))

@@ -10,7 +10,7 @@ use Rattle.verdict.specs.Refusal.{log_refusal}
 use Rattle.verdict.specs.Clean.{judged_other, is_clean}
 use Rattle.verdict.specs.Replay.{finds, explains_loosely}
 use Rattle.verdict.specs.Inner.WriteTable.{WriteTable}
-use Rattle.verdict.specs.declared.answers.Checked.TheVariants.{Passed}
+use Rattle.verdict.specs.Answers.{Passed}
 use Rattle.verdict.specs.declared.search.Run.{Run}
 
 -- a need is 0 for none, a source and 1, or more than any of these where no source will do

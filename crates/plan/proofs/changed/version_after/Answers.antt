@@ -7,7 +7,7 @@ use lib.ListN.{length, take, length-replicate}
 use lib.Seq.{length-take-le}
 use Rattle.verdict.specs.Limits.{work_bytes, witness_buffer}
 use Rattle.verdict.specs.Refusal.{log_refusal}
-use Rattle.verdict.specs.declared.answers.Checked.TheVariants.{Passed}
+use Rattle.verdict.specs.Answers.{Passed}
 use Rattle.verdict.proofs.WellFormed.{whole_steps, steps_within}
 use Rattle.plan.proofs.ChangedLog.{changed, well_changed}
 use Rattle.plan.proofs.Trying.{shown_judged, never_refused}

@@ -2,7 +2,7 @@
 use mathlib.Core.Path.{◌≡◌, refl}
 use Rattle.verdict.specs.Refusal.{work_refusal, log_refusal}
 use Rattle.verdict.specs.Call.{turned_away, answered}
-use Rattle.verdict.specs.declared.answers.Checked.TheVariants.{Passed}
+use Rattle.verdict.specs.Answers.{Passed}
 use Rattle.verdict.proofs.Frame.{work_left}
 use Rattle.plan.specs.Proposal.{length_refusal}
 use Rattle.plan.proofs.Calling.{refused_early, all_passed, then_tried, proposal_refused, proposal_taken, judged_proposal}

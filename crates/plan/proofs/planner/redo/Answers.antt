@@ -3,7 +3,7 @@ use mathlib.Core.Path.{◌≡◌, refl, sym, ap, ◌∙◌}
 use Rattle.words.specs.Lists.{zeros}
 use Rattle.verdict.specs.Refusal.{work_refusal, log_refusal}
 use Rattle.verdict.specs.Call.{turned_away}
-use Rattle.verdict.specs.declared.answers.Checked.TheVariants.{Passed}
+use Rattle.verdict.specs.Answers.{Passed}
 use Rattle.plan.specs.Proposal.{length_refusal}
 use Rattle.plan.proofs.Calling.{all_passed, proposal_length, redone}
 use Rattle.plan.proofs.planner.redo.Lts

@@ -2,7 +2,7 @@
 use native.Mathlib.Omega.{arith}
 use mathlib.Core.Path.{◌≡◌, sym, ◌∙◌}
 use Rattle.verdict.specs.Refusal.{log_refusal}
-use Rattle.verdict.specs.declared.answers.Checked.TheVariants.{Passed}
+use Rattle.verdict.specs.Answers.{Passed}
 use Rattle.text.proofs.Saying.{text_fits}
 use Rattle.text.proofs.WriteCalls.{wrong_length, log_turned, written}
 use Rattle.text.proofs.writer.write.Lts

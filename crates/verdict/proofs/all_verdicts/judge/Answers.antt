@@ -1,18 +1,13 @@
 -- `judge` meets its contract.
-use mathlib.Core.Path.{sym, ◌∙◌}
+use Rattle.std.proofs.Common.{refl}
+use Rattle.std.proofs.lemmas.Result.{err_from_is_err_and}
 use Rattle.verdict.specs.Judgement.{refused, judged}
-use Rattle.verdict.proofs.Examining.{learned_of}
 use Rattle.verdict.proofs.all_verdicts.judge.Goals as goal
 
-pub judge_all-requires : goal.judge_all-requires
-judge_all-requires c =
-    let found = c.examine-examined.ensures in
-    (sym found.says ∙ c.in-Passed.is, learned_of found c.in-Passed.is)
+pub returns-in_err-found : goal.returns-in_err-found
+returns-in_err-found c =
+    let p = err_from_is_err_and c.from_residual.result c.from_residual.ensures.1 in
+    rw (p.1, p.2) (refused _ _ c.in_err-found.ensures refl)
 
-pub returns-in-Refused : goal.returns-in-Refused
-returns-in-Refused c =
-    refused _ _ (sym c.examine-examined.ensures.says ∙ c.in-Refused.is) c.refused_alone.ensures
-
-pub returns-in-Passed : goal.returns-in-Passed
-returns-in-Passed c =
-    judged (sym c.examine-examined.ensures.says ∙ c.in-Passed.is) c.judge_all.ensures
+pub returns : goal.returns
+returns c = judged _ c.in_ok-found.ensures.0 refl c.judge_all.ensures

@@ -1,5 +1,4 @@
 -- `judge_all` meets its contract.
-use mathlib.Core.Path.{refl}
 use Rattle.verdict.proofs.all_verdicts.judge_all.Goals as goal
 
 pub judge_exact-requires : goal.judge_exact-requires
@@ -10,7 +9,6 @@ judge_exact-requires c =
 pub returns : goal.returns
 returns c =
     record {
-      passed = refl;
       clean_is = c.judge_clean-clean.ensures;
       snapshot_is = c.judge_snapshot.ensures;
       conflict_is = c.judge_conflict.ensures;

@@ -1,33 +1,25 @@
 -- `clean` meets its contract.
-use mathlib.Core.Path.{◌≡◌, refl, sym, ◌∙◌}
-use Rattle.verdict.specs.Refusal.{◌else_try◌, work_refusal, log_refusal}
+use Rattle.std.proofs.Common.{refl, sym}
+use Rattle.std.proofs.lemmas.Result.{err_from_is_err_and}
+use Rattle.verdict.specs.Refusal.{work_refusal}
 use Rattle.verdict.specs.Call.{turned_away, answered}
-use Rattle.verdict.specs.declared.answers.Checked.TheVariants.{Passed}
 use Rattle.verdict.proofs.WellFormed.{else_try→}
-use Rattle.verdict.proofs.Examining.{learned_of}
 use Rattle.verdict.proofs.Frame.{work_left}
-use Rattle.verdict.proofs.cleanness.clean.Lts
-use Rattle.verdict.proofs.cleanness.clean.Tie as tie
-use Rattle.verdict.proofs.cleanness.clean.Reads
 use Rattle.verdict.proofs.cleanness.clean.Goals as goal
 
--- places on the way, by the names that the toolchain gives them
-abbrev In-Passed : Type 0
-In-Passed = Lts.Past-After-enum_told tie.the-claims Reads.Pre Reads.Post
-
-passed : (c : In-Passed) → let a = c.args in (work_refusal a.work.now else_try log_refusal a.log.now) ≡ Passed
+pub returns-in_err-found : goal.returns-in_err-found
 unfolding work_refusal
-passed c = sym c.admit-admitted.ensures.says ∙ c.in-Passed.is
+returns-in_err-found c =
+    let p = err_from_is_err_and c.from_residual.result c.from_residual.ensures.1 in
+    rw (p.1, p.2) (turned_away _ _ (sym c.in_err-found.ensures) refl refl)
 
 pub judge_clean-requires : goal.judge_clean-requires
 judge_clean-requires c =
-    let learned = learned_of c.admit-admitted.ensures c.in-Passed.is in
-    ((else_try→ (passed c.before.before.before.before.before.before.before)).1, learned.who, learned.first_own)
+    let found = c.in_ok-found.ensures in
+    ((else_try→ found.0).1, found.1.who, found.1.first_own)
 
-pub returns-in-Refused : goal.returns-in-Refused
+pub returns : goal.returns
 unfolding work_refusal
-returns-in-Refused c = turned_away _ _ (sym c.in-Refused.is ∙ c.admit-admitted.ensures.says) refl refl
-
-pub returns-in-Passed : goal.returns-in-Passed
-returns-in-Passed c =
-    answered c.judge_clean.result (sym (passed c.before.before.before.before.before.before.before.before)) c.judge_clean.ensures refl (work_left _ c.args.work.now _ (else_try→ (passed c.before.before.before.before.before.before.before.before)).0 c.clear.ensures)
+returns c =
+    let passed = c.in_ok-found.ensures.0 in
+    answered c.judge_clean.result (sym passed) c.judge_clean.ensures refl (work_left _ c.args.work.now _ (else_try→ passed).0 c.clear.ensures)

@@ -1,32 +1,26 @@
 -- `conflict` meets its contract.
-use Rattle.verdict.specs.Refusal.{log_refusal, work_refusal, witness_refusal}
-use Rattle.verdict.proofs.Examining.{learned_of}
-use Rattle.verdict.proofs.Frame.{Admitted, admitted, call_refused, call_left}
-use Rattle.verdict.proofs.conflict_graph.conflict.Lts
-use Rattle.verdict.proofs.conflict_graph.conflict.Tie as tie
-use Rattle.verdict.proofs.conflict_graph.conflict.Reads
+use Rattle.std.proofs.Common.{refl, sym}
+use Rattle.std.proofs.lemmas.Result.{err_from_is_err_and}
+use Rattle.verdict.specs.Refusal.{work_refusal, witness_refusal}
+use Rattle.verdict.specs.Call.{turned_away}
+use Rattle.verdict.proofs.Frame.{admitted, call_left}
 use Rattle.verdict.proofs.conflict_graph.conflict.Goals as goal
 
--- places on the way, by the names that the toolchain gives them
-abbrev In-Passed : Type 0
-In-Passed = Lts.Past-After-enum_told tie.the-claims Reads.Pre Reads.Post
-
--- nothing turns the call away
-passed : (c : In-Passed) → Admitted (log_refusal c.args.log.now) c.args.work.now c.args.witness.now
+pub returns-in_err-found : goal.returns-in_err-found
 unfolding work_refusal witness_refusal
-passed c = admitted _ _ _ c.admit_witness-admitted.ensures.says c.in-Passed.is
+returns-in_err-found c =
+    let p = err_from_is_err_and c.from_residual.result c.from_residual.ensures.1 in
+    rw (p.1, p.2) (turned_away _ _ (sym c.in_err-found.ensures) refl refl)
 
 pub judge_conflict-requires : goal.judge_conflict-requires
+unfolding work_refusal witness_refusal
 judge_conflict-requires c =
-    ((passed c.before.before.before.before).well, (learned_of c.admit_witness-admitted.ensures c.in-Passed.is).who)
+    ((admitted _ c.args.work.now c.args.witness.now c.in_ok-found.ensures.0).well, c.in_ok-found.ensures.1.who)
 
 pub leave-requires : goal.leave-requires
-leave-requires c = (passed c.before.before.before.before.before).witness_size
-
-pub returns-in-Refused : goal.returns-in-Refused
 unfolding work_refusal witness_refusal
-returns-in-Refused c = call_refused _ _ _ c.admit_witness-admitted.ensures.says _ c.in-Refused.is
+leave-requires c = (admitted _ c.args.work.now c.args.witness.now c.in_ok-found.ensures.0).witness_size
 
-pub returns-in-Passed : goal.returns-in-Passed
-returns-in-Passed c =
-    call_left (passed c.before.before.before.before.before.before.before.before.before.before) c.judge_conflict.ensures c.leave.ensures
+pub returns : goal.returns
+unfolding work_refusal witness_refusal
+returns c = call_left (admitted _ _ _ c.in_ok-found.ensures.0) c.judge_conflict.ensures c.leave.ensures

@@ -2,7 +2,7 @@
 use mathlib.Core.Path.{sym, ap, ◌∙◌}
 use Prim.Native.Nat.{ℕ}
 use native.Mathlib.Omega.{arith}
-use Rattle.verdict.specs.declared.answers.Checked.TheVariants.{Refused}
+use Rattle.verdict.specs.Answers.{Refused}
 use Rattle.verdict.proofs.Searching.{search_over, search_within}
 use Rattle.verdict.proofs.exactness.admit_search.Goals as goal
 

@@ -1,16 +1,13 @@
 -- `after_order` meets its contract.
 use mathlib.Core.Path.{refl, sym, ◌∙◌}
 use Rattle.words.proofs.Truth.{to_false}
-use Rattle.verdict.specs.Inner.Following.{not_listed}
 use Rattle.verdict.proofs.Cleanly.{cleanness_clean, clean_cleanness, clean≢unclean}
 use Rattle.verdict.proofs.HandedIn.{not_clean}
 use Rattle.verdict.proofs.following.after_order.Goals as goal
 
 pub returns-in-Unclean : goal.returns-in-Unclean
 returns-in-Unclean c =
-    not_listed
-    (not_clean _ _ (to_false _ (λ h. clean≢unclean (clean_cleanness _ h) (sym c.judge_clean-clean.ensures ∙ c.in-Unclean.is))))
-    c.not_listed.ensures
+    not_clean _ _ (to_false _ (λ h. clean≢unclean (clean_cleanness _ h) (sym c.judge_clean-clean.ensures ∙ c.in-Unclean.is)))
 
 pub next_writers-requires : goal.next_writers-requires
 next_writers-requires c = let q = c.requires in (q.0, q.1.marks, q.1.order, refl)

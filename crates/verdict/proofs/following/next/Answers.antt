@@ -1,40 +1,34 @@
 -- `next` meets its contract.
-use mathlib.Core.Path.{sym}
-use Rattle.verdict.specs.Refusal.{◌else_try◌, log_refusal, work_refusal, witness_refusal, order_refusal}
+use Rattle.std.proofs.Common.{sym}
+use Rattle.std.proofs.lemmas.Result.{err_from_is_err_and}
+use Rattle.verdict.specs.Refusal.{work_refusal, witness_refusal, order_refusal}
 use Rattle.verdict.proofs.WellFormed.{else_try→}
-use Rattle.verdict.proofs.Examining.{learned_of}
-use Rattle.verdict.proofs.Frame.{Admitted, admitted, else_assoc, refused_early, refused_later, admitted_later, call_left}
-use Rattle.verdict.proofs.NextLaws.{comes_refused, comes_next}
-use Rattle.verdict.proofs.following.next.Lts
-use Rattle.verdict.proofs.following.next.Tie as tie
-use Rattle.verdict.proofs.following.next.Reads
+use Rattle.verdict.proofs.Frame.{admitted, else_assoc, refused_early, refused_later, admitted_later, call_left}
 use Rattle.verdict.proofs.following.next.Goals as goal
 
--- places on the way, by the names that the toolchain gives them
-abbrev In_default : Type 0
-In_default = Lts.Past-After-enum_told tie.the-claims Reads.Pre Reads.Post
-
--- nothing but 14 may turn the call away
-passed : (c : In_default) → Admitted (order_refusal c.args.order.now else_try log_refusal c.args.log.now) c.args.work.now c.args.witness.now
+pub returns-in_err-found : goal.returns-in_err-found
 unfolding work_refusal witness_refusal order_refusal
-passed c = admitted _ _ _ c.admit_order-admitted.ensures.says c.in_default.is
+returns-in_err-found c =
+    let p = err_from_is_err_and c.from_residual.result c.from_residual.ensures.1 in
+    rw (p.1, p.2) (refused_early _ _ (sym (else_assoc _ _ _)) _ c.in_err-found.ensures)
 
-pub returns-in-Refused : goal.returns-in-Refused
+pub after_order-requires : goal.after_order-requires
+after_order-requires c =
+    let found = c.in_ok-found.ensures in
+    ((else_try→ (else_try→ (else_try→ found.0).1).1).1, found.1)
+
+pub returns-in_err-later : goal.returns-in_err-later
 unfolding work_refusal witness_refusal order_refusal
-returns-in-Refused c =
-    refused_early _ _ (sym (else_assoc _ _ _)) _ c.admit_order-admitted.ensures.says c.in-Refused.is
-
-pub after_order-following-requires : goal.after_order-following-requires
-after_order-following-requires c = ((else_try→ (passed c.before).well).1, learned_of c.admit_order-admitted.ensures c.in_default.is)
+returns-in_err-later c =
+    let p = err_from_is_err_and c.from_residual-in_err-later.result c.from_residual-in_err-later.ensures.1 in
+    rw (p.1, p.2) (refused_later _ _ (sym (else_assoc _ _ _)) _ (admitted _ _ _ c.in_ok-found.ensures.0) c.in_err-later.ensures)
 
 pub leave-requires : goal.leave-requires
-leave-requires c = (passed c.before.before.before.before.before.before).witness_size
+unfolding work_refusal witness_refusal
+leave-requires c = (admitted _ c.args.work.now c.args.witness.now c.in_ok-found.ensures.0).witness_size
 
-pub returns-in-Refused-checked : goal.returns-in-Refused-checked
-returns-in-Refused-checked c =
-    refused_later _ _ (sym (else_assoc _ _ _)) _ (passed c.before.before.before.before) (comes_refused c.after_order-following.ensures c.in-Refused-checked.is)
-
-pub returns-in-Passed : goal.returns-in-Passed
-returns-in-Passed c =
-    let is = comes_next c.after_order-following.ensures c.in-Passed.is in
-    call_left (admitted_later _ _ (sym (else_assoc _ _ _)) (passed c.before.before.before.before.before.before.before.before.before.before.before) is.0) is.1 c.leave.ensures
+pub returns : goal.returns
+unfolding work_refusal witness_refusal order_refusal
+returns c =
+    let later = c.in_ok-later.ensures in
+    call_left (admitted_later _ _ (sym (else_assoc _ _ _)) (admitted _ _ _ c.in_ok-found.ensures.0) later.0) later.1 c.leave.ensures

@@ -1,47 +1,36 @@
 -- `check_steps` meets its contract.
-use mathlib.Core.Path.{◌≡◌, refl, sym, ◌∙◌}
-use native.Mathlib.Omega.{arith}
-use Rattle.verdict.specs.Log.{steps}
-use Rattle.verdict.specs.Refusal.{tried, step_refusal}
-use Rattle.verdict.specs.declared.answers.Checked.TheVariants.{Passed}
-use Rattle.verdict.proofs.Refused.{numbered_some, numbered_none, tried_refused, tried_passed}
-use Rattle.verdict.proofs.Examining.{examined_away}
+use Rattle.std.proofs.Common.{◌∙◌, refl, sym, arith}
+use Rattle.std.proofs.lemmas.Result.{err_from_is_err_and}
+use Rattle.verdict.proofs.Refused.{tried_refused, tried_passed}
 use Rattle.verdict.proofs.Lives.{open_lived}
 use Rattle.verdict.proofs.Noting.{noted_none, who_learned, all_learned}
-use Rattle.verdict.proofs.refusal.check_steps.Lts
-use Rattle.verdict.proofs.refusal.check_steps.Tie as tie
-use Rattle.verdict.proofs.refusal.check_steps.Reads
 use Rattle.verdict.proofs.refusal.check_steps.Goals as goal
-
--- places on the way, by the names that the toolchain gives them
-abbrev Else-walked-ne0 : Type 0
-Else-walked-ne0 = Lts.Else1 tie.the-claims Reads.Pre Reads.Post
-
-passed : (c : Else-walked-ne0) → let log = c.args.log.now in tried (steps log) (step_refusal log) ≡ Passed
-passed c = sym c.walk_steps-walked.ensures.says ∙ numbered_none _ _ c.if-walked-ne0.false
 
 pub overflow_cast-none : goal.overflow_cast-none
 overflow_cast-none c = omega (arith, c.requires.1)
 
-pub walk_steps-walked-requires : goal.walk_steps-walked-requires
-walk_steps-walked-requires c = let known = c.requires in (known.0, known.1, noted_none _ 129 _ refl known.0)
+pub walk_steps-requires : goal.walk_steps-requires
+walk_steps-requires c = let known = c.requires in (known.0, known.1, noted_none _ 129 _ refl known.0)
 
-pub returns-then-walked-ne0 : goal.returns-then-walked-ne0
-returns-then-walked-ne0 c =
-    let known = c.requires in
-    examined_away c.turned_away.ensures (tried_refused _ (rw known.0 (sym c.walk_steps-walked.ensures.says ∙ numbered_some _ _ c.if-walked-ne0.true)))
+pub returns-in_err-missed : goal.returns-in_err-missed
+returns-in_err-missed c =
+    let p = err_from_is_err_and c.from_residual.result c.from_residual.ensures.1 in
+    rw (p.1, p.2) (tried_refused _ (rw c.requires.0 c.in_err-missed.ensures))
 
 pub own_fault-own-requires : goal.own_fault-own-requires
 own_fault-own-requires c =
-    let found = c.walk_steps-walked.ensures in
-    let known = c.requires in
-    (known.0, rw known.0 (passed c.before.before), who_learned _ (found.noted c.if-walked-ne0.false), found.some_missed c.if-walked-ne0.false)
+    let walked = c.in_ok-missed.ensures in
+    (c.requires.0, rw c.requires.0 walked.0, who_learned _ walked.1.0, walked.1.1)
+
+pub returns-in_err-check_open : goal.returns-in_err-check_open
+returns-in_err-check_open c =
+    let p = err_from_is_err_and c.from_residual-in_err-check_open.result c.from_residual-in_err-check_open.ensures.1 in
+    let walked = c.in_ok-missed.ensures in
+    rw (p.1, p.2) (tried_passed _ (rw c.requires.0 walked.0) ∙ sym (open_lived _ walked.1.0.has_lived) ∙ sym c.in_err-check_open.ensures)
 
 pub returns : goal.returns
 returns c =
-    let noted = c.walk_steps-walked.ensures.noted c.if-walked-ne0.false in
-    let known = c.requires in
-    record {
-      says = c.check_open.ensures ∙ open_lived _ noted.has_lived ∙ sym (tried_passed _ (rw known.0 (passed c.before.before.before.before.before)));
-      learned = λ _. all_learned _ noted refl c.own_fault-own.ensures (passed c.before.before.before.before.before);
-    }
+    let walked = c.in_ok-missed.ensures in (
+      tried_passed _ (rw c.requires.0 walked.0) ∙ sym (open_lived _ walked.1.0.has_lived) ∙ sym c.in_ok-check_open.ensures,
+      all_learned _ walked.1.0 refl c.own_fault-own.ensures walked.0,
+    )

@@ -10,7 +10,7 @@ use Rattle.verdict.specs.Limits.{transactions, objects}
 use Rattle.verdict.specs.Log.{steps, tx, obj, src}
 use Rattle.verdict.specs.Refusal.{log_refusal}
 use Rattle.verdict.specs.Clean.{judged_other}
-use Rattle.verdict.specs.declared.answers.Checked.TheVariants.{Passed}
+use Rattle.verdict.specs.Answers.{Passed}
 use Rattle.verdict.proofs.WellFormed.{well_formed}
 use Rattle.verdict.proofs.JudgedReads.{is_read}
 use Rattle.verdict.proofs.SearchTables.{needed_none, needed_same, needed_more, needed_all}

@@ -4,7 +4,7 @@ use Prim.Native.Nat.{◌-◌, ◌/◌, ◌≤◌}
 use lib.ListN.{length}
 use Rattle.verdict.specs.Refusal.{log_refusal}
 use Rattle.verdict.specs.Inner.Marks.{Committed}
-use Rattle.verdict.specs.declared.answers.Checked.TheVariants.{Passed}
+use Rattle.verdict.specs.Answers.{Passed}
 use Rattle.verdict.proofs.SearchTables.{Needed}
 use Rattle.verdict.proofs.search.need_table.Given as goal
 

@@ -4,7 +4,7 @@ use Prim.Native.Nat.{◌*◌, ◌≤◌}
 use lib.ListN.{length}
 use Rattle.verdict.specs.Refusal.{log_refusal}
 use Rattle.verdict.specs.Snapshot.{last_committed}
-use Rattle.verdict.specs.declared.answers.Checked.TheVariants.{Passed}
+use Rattle.verdict.specs.Answers.{Passed}
 use Rattle.verdict.proofs.snapshots.last_committed.Given as goal
 
 abbrev pub invariant-loop-j : goal.invariant-loop-j

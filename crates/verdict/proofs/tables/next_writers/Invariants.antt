@@ -5,7 +5,7 @@ use Rattle.verdict.specs.Log.{steps}
 use Rattle.verdict.specs.Refusal.{log_refusal}
 use Rattle.verdict.specs.Inner.Checking.{committer, CommitOrder}
 use Rattle.verdict.specs.Inner.WriteTable.{WriteTable}
-use Rattle.verdict.specs.declared.answers.Checked.TheVariants.{Passed}
+use Rattle.verdict.specs.Answers.{Passed}
 use Rattle.verdict.proofs.NextWriters.{Coming, left}
 use Rattle.verdict.proofs.tables.next_writers.Given as goal
 

@@ -1,57 +1,40 @@
 -- `first_number` meets its contract.
-use mathlib.Core.Path.{◌≡◌, sym, ap, ◌∙◌}
-use Prim.Native.Nat.{ℕ}
-use native.Mathlib.Omega.{arith}
-use lib.ListN.{get_or}
-use Rattle.words.specs.Tests.{◌is◌, fails}
-use Rattle.verdict.specs.Log.{kind, tx, obj, src}
-use Rattle.verdict.specs.Refusal.{◌at◌when◌, range_refusal}
-use Rattle.verdict.specs.Inner.Checking.{numbered, life, InRange}
-use Rattle.verdict.proofs.Asking.{by_asked}
+use Rattle.std.proofs.Common.{◌≡◌, ◌∙◌, ℕ, List, sym, ap, get_or, arith}
+use Rattle.std.proofs.lemmas.Result.{err_from_is_err_and}
+use Rattle.verdict.specs.Log.{tx}
+use Rattle.verdict.specs.Inner.Checking.{InRange, Lived, life}
+use Rattle.verdict.proofs.Asking.{by_asked, passes_asked}
 use Rattle.verdict.proofs.Lives.{life_passes, life_late}
-use Rattle.verdict.proofs.Refused.{numbered_none, numbered_first, numbered_then}
+use Rattle.verdict.proofs.Refused.{tried_refused, tried_passed}
 use Rattle.verdict.proofs.WellFormed.{tx_within}
-use Rattle.verdict.proofs.taking.first_number.Lts
-use Rattle.verdict.proofs.taking.first_number.Tie as tie
-use Rattle.verdict.proofs.taking.first_number.Reads
 use Rattle.verdict.proofs.taking.first_number.Goals as goal
 
--- places on the way, by the names that the toolchain gives them
-abbrev After-in_range-range : Type 0
-After-in_range-range = Lts.After-in_range tie.the-claims Reads.Pre Reads.Post
-
-abbrev After-index : Type 0
-After-index = Lts.After-index tie.the-claims Reads.Pre Reads.Post
-
-abbrev Else-range-ne0 : Type 0
-Else-range-ne0 = Lts.Else1 tie.the-claims Reads.Pre Reads.Post
-
--- that number is the one of the step
-by_range : (c : After-in_range-range) → let a = c.args in numbered c.in_range-range.result a.i ≡ range_refusal a.i (kind a.log.now a.i) (tx a.log.now a.i) (obj a.log.now a.i) (src a.log.now a.i)
-by_range c = by_asked c.step_at-step.ensures c.requires.2 (c.in_range-range.ensures c.args.i)
-
--- none of them applies
-within : (c : Else-range-ne0) → InRange c.args.log.now c.args.i
-unfolding InRange
-within c = sym (by_range c.before) ∙ numbered_none _ _ c.if-range-ne0.false
-
-far : (c : After-index) → let a = c.args in get_or a.lives.now c.index.result 0 ≡ life a.log.now a.i (tx a.log.now a.i)
-far c =
-    ap (λ (t : ℕ). get_or c.args.lives.now t 0) (c.index.ensures ∙ c.step_at-step.ensures.tx_is) ∙ c.requires.1.far _ (tx_within _ _ (within c.before)).1
-
-pub returns-then-range-ne0 : goal.returns-then-range-ne0
-returns-then-range-ne0 c = numbered_first _ _ _ (by_range c.before.before) c.if-range-ne0.true
+-- what the table says of the step's transaction
+far : {log lives : List ℕ} {i : ℕ} → Lived log i lives → InRange log i → {t : ℕ} → t ≡ tx log i → get_or lives t 0 ≡ life log i (tx log i)
+far {lives} lived within e = ap (λ (t : ℕ). get_or lives t 0) e ∙ lived.far _ (tx_within _ _ within).1
 
 pub bounds-lives-index : goal.bounds-lives-index
 bounds-lives-index c =
-    omega (arith, c.index.ensures, c.step_at-step.ensures.tx_is, (tx_within _ _ (within c.before.before.before)).1)
+    let step = c.step_at-step.ensures in
+    omega (arith, c.index.ensures, step.tx_is, (tx_within _ _ (passes_asked step c.requires.2 c.in_ok-in_range.ensures)).1)
+
+pub returns-in_err-in_range : goal.returns-in_err-in_range
+returns-in_err-in_range c =
+    let p = err_from_is_err_and c.from_residual.result c.from_residual.ensures.1 in
+    rw (p.1, p.2) (sym (tried_refused _ (sym (by_asked c.step_at-step.ensures c.requires.2 c.in_err-in_range.ensures))))
 
 pub returns-then-life-asked : goal.returns-then-life-asked
-unfolding numbered ◌at◌when◌ fails ◌is◌
+unfolding InRange
 returns-then-life-asked c =
-    sym (numbered_then _ _ (by_range c.before.before.before.before.before.before.before) c.if-range-ne0.false ∙ life_passes _ _ (sym (far c.before.before.before.before.before) ∙ c.if-life-asked.true ∙ c.requires.2.far))
+    let step = c.step_at-step.ensures in
+    let asks = c.requires.2 in
+    let within = passes_asked step asks c.in_ok-in_range.ensures in
+    sym (tried_passed _ within ∙ life_passes _ _ (sym (far c.requires.1 within (c.index.ensures ∙ step.tx_is)) ∙ c.if-life-asked.true ∙ asks.far))
 
 pub returns : goal.returns
+unfolding InRange
 returns c =
+    let step = c.step_at-step.ensures in
     let asks = c.requires.2 in
-    life_late _ _ (λ e. c.if-life-asked.false (far c.before.before.before.before.before ∙ e ∙ sym asks.far)) asks.number ∙ sym (numbered_then _ _ (by_range c.before.before.before.before.before.before.before) c.if-range-ne0.false)
+    let within = passes_asked step asks c.in_ok-in_range.ensures in
+    sym (tried_passed _ within ∙ life_late _ _ (λ e. c.if-life-asked.false (far c.requires.1 within (c.index.ensures ∙ step.tx_is) ∙ e ∙ sym asks.far)) asks.number)

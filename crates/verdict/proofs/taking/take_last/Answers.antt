@@ -1,7 +1,6 @@
 -- `take_last` meets its contract.
-use mathlib.Core.Path.{◌∙◌}
-use mathlib.Core.Logic.{inr}
-use native.Mathlib.Omega.{arith}
+use Rattle.std.proofs.Common.{◌∙◌, arith, inr}
+use Rattle.std.proofs.lemmas.Result.{MatchResult-weaker}
 use Rattle.verdict.specs.Log.{steps}
 use Rattle.verdict.proofs.Noting.{none_commits}
 use Rattle.verdict.proofs.taking.take_last.Goals as goal
@@ -17,5 +16,5 @@ take_end-requires c =
 
 pub returns : goal.returns
 returns c =
-    let ends = c.take_end.ensures in
-    (ends.0, λ e. (ends.1 e, none_commits _ _ (λ q. c.if-step-eq-COMMIT.false (c.step_at-step.ensures.kind_is ∙ q)) c.requires.5))
+    let order = none_commits _ _ (λ q. c.if-step-eq-COMMIT.false (c.step_at-step.ensures.kind_is ∙ q)) c.requires.5 in
+    MatchResult-weaker c.take_end.result c.take_end.ensures (λ u ended. (ended.0, (ended.1, order))) (λ e away. away)
