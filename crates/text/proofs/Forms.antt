@@ -1,4 +1,5 @@
 -- Forms that follow one another in a text, and the line of a step as four of them.
+use Rattle.std.specs.Prelude.{Option, None, Some}
 use mathlib.Core.Path.{◌≡◌, refl, sym, ap, subst, ◌∙◌}
 use mathlib.Core.Bool.{Bool, true, false}
 use mathlib.Core.List.{List, [], ◌∷◌, ◌++◌, append_assoc}
@@ -10,8 +11,6 @@ use Rattle.text.specs.Decimal.{decimal}
 use Rattle.text.specs.Line.{item, op, line, sayable, has_word, sayable_step}
 use Rattle.text.specs.Reading.{NoLine}
 use Rattle.text.specs.Inner.Finds.{is_digit, Finds}
-use Rattle.text.specs.declared.number.Number.{Number}
-use Rattle.text.specs.declared.number.Number.TheVariants.{At, Bad}
 use Rattle.text.proofs.Spelling.{Beyond, the_same, longer, decimal_beyond}
 use Rattle.text.proofs.Items.{item_front, same_front}
 use Rattle.text.proofs.Words.{op_one}
@@ -40,11 +39,11 @@ item_free key behind apart a b x y p q e =
     go (longer d z i j k l) = let m : behind ≡ d = cc in absurd (not_both j (rw m at apart))
 
 -- what a function that finds a form has said, once its answer is known
-module _ (form : ℕ → List ℕ) (passes : ℕ → Bool) (text : List ℕ) (at : ℕ) {r : Number} (f : Finds form passes text at r) where
-  pub found : {n next : ℕ} → r ≡ At n next → Finds form passes text at (At n next)
+module _ (form : ℕ → List ℕ) (passes : ℕ → Bool) (text : List ℕ) (at : ℕ) {r : Option (ℕ × ℕ)} (f : Finds form passes text at r) where
+  pub found : {n next : ℕ} → r ≡ Some (n, next) → Finds form passes text at (Some (n, next))
   found e = subst (Finds form passes text at) e f
 
-  pub not_found : r ≡ Bad → Finds form passes text at Bad
+  pub not_found : r ≡ None → Finds form passes text at None
   not_found e = subst (Finds form passes text at) e f
 
 -- the text begins with this form and goes on as `more` says

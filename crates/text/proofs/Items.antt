@@ -1,4 +1,5 @@
 -- A key and its value at a place of a text.
+use Rattle.std.specs.Prelude.{Option, None, Some}
 use mathlib.Core.Path.{◌≡◌, sym, ap, ◌∙◌}
 use mathlib.Core.Bool.{Bool, true, false}
 use mathlib.Core.List.{List, [], ◌∷◌, ◌++◌, append_assoc}
@@ -9,8 +10,6 @@ use lib.Seq.{drop-drop}
 use Rattle.words.proofs.Truth.{not_both}
 use Rattle.text.specs.Line.{item}
 use Rattle.text.specs.Inner.Finds.{starts, Finds}
-use Rattle.text.specs.declared.number.Number.{Number}
-use Rattle.text.specs.declared.number.Number.TheVariants.{At, Bad}
 use Rattle.text.proofs.Fronts.{starts→, →starts}
 
 -- the key comes first, then the value with the byte behind it
@@ -42,9 +41,9 @@ module _ (text : List ℕ) (at : ℕ) (key : List ℕ) where
       not_both (→starts key (value n ++ behind ∷ [] ++ rest)) (rw (e ∙ item_front key (value n) behind rest) at h)
 
   pub behind_key : (value : ℕ → List ℕ) (behind : ℕ) (passes : ℕ → Bool) → starts key (drop at text) ≡ true
-      → (r : Number) → Finds (λ (n : ℕ). value n ++ behind ∷ []) passes text (at + length key) r
+      → (r : Option (ℕ × ℕ)) → Finds (λ (n : ℕ). value n ++ behind ∷ []) passes text (at + length key) r
       → Finds (λ (n : ℕ). item key (value n) behind) passes text at r
-  behind_key value behind passes h (At n next) f =
+  behind_key value behind passes h (Some (n, next)) f =
       (f.0, f.1, stands_there h ∙ ap (λ (u : List ℕ). key ++ u) f.2 ∙ sym (item_front key (value n) behind (drop next text)))
-  behind_key value behind passes h Bad f =
+  behind_key value behind passes h None f =
       λ n rest s e. f n rest s (same_front key _ _ (sym (stands_there h) ∙ e ∙ item_front key (value n) behind rest))

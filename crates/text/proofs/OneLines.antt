@@ -1,10 +1,15 @@
 -- One line by itself: it says one thing, what is found at its front says it where nothing stands behind, and none that is in form is longer than the longest.
+use Rattle.std.specs.Prelude.{None, Some}
 use mathlib.Core.Path.{◌≡◌, refl, sym, ap, subst, ◌∙◌}
 use mathlib.Core.Bool.{Bool, true, false}
 use mathlib.Core.List.{List, [], ◌∷◌, ◌++◌, append-nil}
 use Prim.Native.Nat.{ℕ, ◌≤◌, ◌<◌}
 use native.Mathlib.Omega.{arith}
 use lib.ListN.{length, get_or, drop, drop_of_length-le, length-drop}
+use Rattle.std.proofs.Common.{inl, inr}
+use Rattle.std.proofs.Math.Dec.{leb}
+use Rattle.std.proofs.lemmas.Bool.Decides.{leb_tells}
+use Rattle.verdict.specs.declared.step.Step.{Step}
 use Rattle.text.specs.Bytes.{bytes, line_end}
 use Rattle.text.specs.Decimal.{decimal}
 use Rattle.text.specs.Line.{item, header, op, line, sayable, sayable_step}
@@ -13,8 +18,6 @@ use Rattle.text.specs.OneLine.{longest_line, IsHeader, IsStep, SaysLine, step_li
 use Rattle.text.specs.Inner.Finds.{Finds, FindsHeader, FindsLine}
 use Rattle.text.specs.declared.OneLine.{OneLine}
 use Rattle.text.specs.declared.OneLine.TheVariants as one_line
-use Rattle.text.specs.declared.number.Number.TheVariants as number
-use Rattle.text.specs.declared.line.Line.TheVariants as a_line
 use Rattle.text.proofs.Fronts.{sayable→}
 use Rattle.text.proofs.Words.{kind_of}
 use Rattle.text.proofs.Compare.{header_free, line_free, step→}
@@ -34,12 +37,19 @@ not_all : (bytes : List ℕ) (end : ℕ) → end < length bytes → drop end byt
 not_all bytes end h e = omega (arith, sym (length-drop end bytes) ∙ ap length e)
 
 module _ (bytes : List ℕ) where
-  pub all_header : (n end : ℕ) → Finds header sayable bytes 0 (number.At n end) → length bytes ≤ end → IsHeader bytes
+  pub all_header : (n end : ℕ) → Finds header sayable bytes 0 (Some (n, end)) → length bytes ≤ end → IsHeader bytes
   all_header n end f h = record { n = n; fine = f.0; whole = all_of_it (header n) end h f.2 }
 
-  pub header_and_more : (n end : ℕ) → Finds header sayable bytes 0 (number.At n end) → end < length bytes → IsHeader bytes → ⊥
+  pub header_and_more : (n end : ℕ) → Finds header sayable bytes 0 (Some (n, end)) → end < length bytes → IsHeader bytes → ⊥
   header_and_more n end f h i =
       not_all bytes end h (header_free n i.n (drop end bytes) [] f.0 i.fine (sym f.2 ∙ by_itself (header i.n) i.whole)).1
+
+  -- .. and which of the two it is
+  pub header_by_end : (n end : ℕ) → Finds header sayable bytes 0 (Some (n, end)) → FindsHeader bytes (leb (length bytes) end)
+  header_by_end n end f = elim (leb_tells (length bytes) end) [
+      | inl h ↦ rw h.0 (all_header n end f h.1)
+      | inr h ↦ rw h.0 (header_and_more n end f h.1)
+    ]
 
   pub not_header : NoHeader bytes → IsHeader bytes → ⊥
   not_header f i = f i.n [] i.fine (by_itself (header i.n) i.whole)
@@ -50,16 +60,16 @@ module _ (bytes : List ℕ) where
   pub no_header_told : {r : Bool} → FindsHeader bytes r → r ≡ false → IsHeader bytes → ⊥
   no_header_told f e = subst (FindsHeader bytes) e f
 
-  pub all_step : (k t x s end : ℕ) → FindsLine bytes 0 (a_line.At k t x s end) → length bytes ≤ end → SaysLine bytes (one_line.Step k t x s)
-  all_step k t x s end f h = step_line (record { fine = f.0; whole = all_of_it (line k t x s) end h f.2 })
+  pub all_step : (step : Step) (end : ℕ) → FindsLine bytes 0 (Some (step, end)) → length bytes ≤ end → SaysLine bytes (one_line.Step step.kind step.tx step.obj step.src)
+  all_step step end f h = step_line (record { fine = f.0; whole = all_of_it (line step.kind step.tx step.obj step.src) end h f.2 })
 
-  pub step_and_more : (k t x s end : ℕ) → FindsLine bytes 0 (a_line.At k t x s end) → end < length bytes → (IsHeader bytes → ⊥) → SaysLine bytes one_line.Other
-  step_and_more k t x s end f h none = other_line go none
+  pub step_and_more : (step : Step) (end : ℕ) → FindsLine bytes 0 (Some (step, end)) → end < length bytes → (IsHeader bytes → ⊥) → SaysLine bytes one_line.Other
+  step_and_more step end f h none = other_line go none
     where
       go : (k' t' x' s' : ℕ) → IsStep bytes k' t' x' s' → ⊥
       go k' t' x' s' i =
           not_all bytes end h
-          (line_free k t x s k' t' x' s' (drop end bytes) [] f.0 i.fine (sym f.2 ∙ by_itself (line k' t' x' s') i.whole)).1
+          (line_free step.kind step.tx step.obj step.src k' t' x' s' (drop end bytes) [] f.0 i.fine (sym f.2 ∙ by_itself (line k' t' x' s') i.whole)).1
 
   pub not_step : NoLine bytes → (IsHeader bytes → ⊥) → SaysLine bytes one_line.Other
   not_step f none = other_line (λ k t x s i. f k t x s [] i.fine (by_itself (line k t x s) i.whole)) none

@@ -1,5 +1,6 @@
 -- A text has one reading: which refusal it gets, which log it says, and what a call of `read` answers and leaves.
 -- And what `text_of` writes is read back.
+use Rattle.std.specs.Prelude.{Result, Ok}
 use mathlib.Core.Path.{◌≡◌, refl, sym, ap, subst, ◌∙◌}
 use mathlib.Core.Bool.{true}
 use mathlib.Core.List.{List, [], ◌∷◌, ◌++◌, append-nil, append_assoc}
@@ -9,16 +10,14 @@ use lib.ListN.{length}
 use Rattle.words.specs.Lists.{entries}
 use Rattle.verdict.specs.Limits.{most_steps}
 use Rattle.verdict.specs.Log.{steps}
-use Rattle.verdict.specs.Answers.{Checked}
-use Rattle.verdict.specs.Answers.{Passed, Refused}
+use Rattle.verdict.specs.Answers.{Checked, Passed, Refused}
+use Rattle.verdict.specs.declared.answers.Refusal.{Refusal}
 use Rattle.verdict.specs.Call.{answered}
 use Rattle.verdict.proofs.Only.{buffer_one, call_one}
 use Rattle.text.specs.Line.{header, sayable, largest}
 use Rattle.text.specs.Text.{lines, text_of, Steps}
 use Rattle.text.specs.Reading.{NoHeader, NoLine, Says, Reading, no_header, too_many, bad_line, extra, in_form}
-use Rattle.text.specs.ReadCall.{most_bytes, step_entries, ReadRefusal, wrong_buffer, too_long, by_line, said_steps, leaves_steps, ReadCall}
-use Rattle.text.specs.declared.TextAnswer.{TextAnswer}
-use Rattle.text.specs.declared.TextAnswer.TheVariants as text_answer
+use Rattle.text.specs.ReadCall.{most_bytes, step_entries, ReadRefusal, wrong_buffer, too_long, by_line, leaves_steps, ReadCall}
 use Rattle.text.proofs.Fronts.{→sayable}
 use Rattle.text.proofs.Runs.{steps_length}
 use Rattle.text.proofs.Compare.{header_free, no_line, Compared, agree, less, more, compare}
@@ -128,7 +127,7 @@ read_refusal_one (by_line b c d) (by_line b' c' d') = reading_one d d'
 
 -- A CALL
 -- any two results of one call of `read` are equal, the answer and every entry of the step buffer
-pub read_call_one : {text buffer : List ℕ} {r s : TextAnswer} {v w : List ℕ} → ReadCall text buffer r v → ReadCall text buffer s w → (r ≡ s) × (v ≡ w)
+pub read_call_one : {text buffer : List ℕ} {r s : Result ℕ Refusal} {v w : List ℕ} → ReadCall text buffer r v → ReadCall text buffer s w → (r ≡ s) × (v ≡ w)
 read_call_one p q =
     let e = call_one (λ f g h k. read_refusal_one h k) (λ a b h k. says_one h k) p q in
     (e.0, buffer_one e.1)
@@ -141,9 +140,9 @@ module _ {n : ℕ} {log : List ℕ} (each : Steps n log) (few : n ≤ most_steps
   pub reads_back : Reading (text_of log) Passed
   reads_back = in_form log text_says
 
-  pub read_back : {buffer : List ℕ} {r : TextAnswer} {v : List ℕ} → length (text_of log) ≤ most_bytes → length buffer ≡ step_entries
-      → ReadCall (text_of log) buffer r v → (r ≡ text_answer.Accepted n) × (v ≡ entries step_entries log)
-  unfolding said_steps leaves_steps
+  pub read_back : {buffer : List ℕ} {r : Result ℕ Refusal} {v : List ℕ} → length (text_of log) ≤ most_bytes → length buffer ≡ step_entries
+      → ReadCall (text_of log) buffer r v → (r ≡ Ok n) × (v ≡ entries step_entries log)
+  unfolding leaves_steps
   read_back {buffer} fits size c =
       let e = read_call_one c (answered log (by_line size fits reads_back) text_says refl refl) in
-      (e.0 ∙ ap text_answer.Accepted (steps_count each), e.1)
+      (e.0 ∙ ap Ok (steps_count each), e.1)

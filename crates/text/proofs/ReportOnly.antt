@@ -1,26 +1,26 @@
 -- A text has one report, and `report` one result.
+use Rattle.std.specs.Prelude.{Result, Ok}
 use mathlib.Core.Path.{◌≡◌, refl, sym, ap, subst, ◌∙◌}
 use mathlib.Core.List.{List}
 use Prim.Native.Nat.{ℕ}
 use native.Mathlib.Omega.{arith}
-use Rattle.verdict.specs.Answers.{Checked}
-use Rattle.verdict.specs.Answers.{Refused}
+use Rattle.verdict.specs.Answers.{Checked, Refused}
+use Rattle.verdict.specs.declared.answers.Refusal.{Refusal}
 use Rattle.verdict.proofs.WellFormed.{refused≢passed}
 use Rattle.verdict.proofs.Only.{conflict_one, version_one, exact_one, buffer_one, call_one}
+use Rattle.verdict.proofs.Refused.{one_number, one_place}
 use Rattle.text.specs.Bytes.{bytes}
 use Rattle.text.specs.Reading.{in_form}
 use Rattle.text.specs.ReportLine.{refused_line, outcome_line}
 use Rattle.text.specs.Report.{ConflictLine, conflict_line, VersionLine, version_line, ExactLine, exact_over, exact_line, LogReport, log_refused, judged, ReportOf, text_too_long, text_refused, text_read}
 use Rattle.text.specs.ReportCall.{ReportCall}
-use Rattle.text.specs.declared.TextAnswer.{TextAnswer}
 use Rattle.text.proofs.Only.{says_one, reading_one}
 
 -- one refusal is printed in one way
 same_refusal : {r : Checked} {n p m q : ℕ} → r ≡ Refused n p → r ≡ Refused m q → refused_line n p ≡ refused_line m q
 same_refusal {n} {p} {m} {q} e f =
-    let i : n ≡ m = cc in
-    let j : p ≡ q = cc in
-    ap (λ (z : ℕ). refused_line z p) i ∙ ap (refused_line m) j
+    let same = sym e ∙ f in
+    ap (λ (z : ℕ). refused_line z p) (one_number same) ∙ ap (refused_line m) (one_place same)
 
 module _ {log : List ℕ} where
   conflict_line_one : {v w : List ℕ} → ConflictLine log v → ConflictLine log w → v ≡ w
@@ -54,7 +54,7 @@ report_one (text_read log k s t) (text_refused n p h r) = absurd (refused≢pass
 report_one (text_read log h s t) (text_read log' {w} k u v) = log_report_one t (subst (λ (l : List ℕ). LogReport l w) (says_one u s) v)
 
 -- any two results of one call of `report` are equal, the answer and every entry of the lent buffer
-pub report_call_one : {text out : List ℕ} {r s : TextAnswer} {v w : List ℕ} → ReportCall text out r v → ReportCall text out s w → (r ≡ s) × (v ≡ w)
+pub report_call_one : {text out : List ℕ} {r s : Result ℕ Refusal} {v w : List ℕ} → ReportCall text out r v → ReportCall text out s w → (r ≡ s) × (v ≡ w)
 report_call_one p q =
     let e = call_one (λ f g h k. h ∙ sym k) (λ a b h k. report_one h k) p q in
     (e.0, buffer_one e.1)

@@ -1,4 +1,5 @@
 -- The lines of a log, one after another: one step more, and how far a pass over them has gone.
+use Rattle.std.specs.Prelude.{Some, Ok}
 use mathlib.Core.Path.{◌≡◌, refl, sym, ap, subst, ◌∙◌}
 use mathlib.Core.Bool.{true}
 use mathlib.Core.List.{List, [], ◌∷◌, ◌++◌, append-nil, append_assoc}
@@ -12,8 +13,7 @@ use Rattle.text.specs.Text.{lines, Steps, no_step, a_step}
 use Rattle.text.specs.Inner.Put.{put_at, Fits}
 use Rattle.text.specs.Inner.StepLine.{line_of}
 use Rattle.text.specs.Inner.Finds.{FindsLine, kept, Passes}
-use Rattle.text.specs.declared.line.Line.TheVariants.{At}
-use Rattle.text.specs.declared.line.Lines.TheVariants.{To}
+use Rattle.verdict.specs.declared.step.Step.{Step}
 use Rattle.verdict.specs.Log.{kind, tx, obj, src}
 
 pub steps_length : {n : ℕ} {log : List ℕ} → Steps n log → length log ≡ 4 * n
@@ -118,22 +118,22 @@ kept_more log w before at e =
     (rw (sym e, drop-append-add log (drop (length log) before) (length w), drop-drop (length w) (length log) before, length-append log w) refl)
 
 -- one line more
-pub gone_on : {text : List ℕ} {at : ℕ} {before : List ℕ} {i place : ℕ} {buffer : List ℕ} (k t x s next : ℕ) → FindsLine text place (At k t x s next)
-    → (buffer' : List ℕ) → buffer' ≡ put_at (4 * i) (four k t x s) buffer → Gone text at before i place buffer → Gone text at before (i + 1) next buffer'
-gone_on {text} {before} {i} k t x s next f buffer' b g =
+pub gone_on : {text : List ℕ} {at : ℕ} {before : List ℕ} {i place : ℕ} {buffer : List ℕ} (step : Step) (next : ℕ) → FindsLine text place (Some (step, next))
+    → (buffer' : List ℕ) → buffer' ≡ put_at (4 * i) (four step.kind step.tx step.obj step.src) buffer → Gone text at before i place buffer → Gone text at before (i + 1) next buffer'
+gone_on {text} {before} {i} step next f buffer' b g =
     record {
-      log = g.log ++ four k t x s;
-      each = steps_last k t x s g.each f.0;
+      log = g.log ++ four step.kind step.tx step.obj step.src;
+      each = steps_last step.kind step.tx step.obj step.src g.each f.0;
       over =
           g.over
           ∙ ap (λ (u : List ℕ). lines i g.log ++ u) f.2
-          ∙ sym (append_assoc (lines i g.log) (line k t x s) (drop next text))
-          ∙ ap (λ (u : List ℕ). u ++ drop next text) (sym (lines_last k t x s g.each));
-      holds = b ∙ ap (put_at (4 * i) (four k t x s)) g.holds ∙ kept_more g.log (four k t x s) before (4 * i) (steps_length g.each);
+          ∙ sym (append_assoc (lines i g.log) (line step.kind step.tx step.obj step.src) (drop next text))
+          ∙ ap (λ (u : List ℕ). u ++ drop next text) (sym (lines_last step.kind step.tx step.obj step.src g.each));
+      holds = b ∙ ap (put_at (4 * i) (four step.kind step.tx step.obj step.src)) g.holds ∙ kept_more g.log (four step.kind step.tx step.obj step.src) before (4 * i) (steps_length g.each);
     }
 
 -- a pass that has gone over all lines
 pub gone_over : {text : List ℕ} {at : ℕ} {before : List ℕ} {i place : ℕ} {buffer : List ℕ} (n : ℕ) → i ≡ n → place ≤ length text
-    → Gone text at before i place buffer → Passes text at n before (To place) buffer
+    → Gone text at before i place buffer → Passes text at n before (Ok place) buffer
 gone_over {text} {at} {place} n e h g =
     (g.log, subst (λ (m : ℕ). Steps m g.log) e g.each, h, subst (λ (m : ℕ). drop at text ≡ lines m g.log ++ drop place text) e g.over, g.holds)

@@ -1,4 +1,5 @@
 -- How an answer by value that a verdict allows is told: as the outcome that it holds. Its line is put where it has room.
+use Rattle.std.specs.Prelude.{Ok}
 use mathlib.Core.Path.{◌≡◌, refl, sym, ap, ◌∙◌}
 use mathlib.Core.List.{List, ◌++◌}
 use Prim.Native.Nat.{ℕ, ◌+◌, ◌-◌, ◌*◌, ◌≤◌}
@@ -9,7 +10,7 @@ use Rattle.verdict.specs.Limits.{transactions, witness_buffer}
 use Rattle.verdict.specs.Reason.{Entry}
 use Rattle.verdict.specs.Witness.{in_threes, witness, entries_in}
 use Rattle.verdict.specs.Outcome.{Outcome, order, cycle, none, unclean, said, members}
-use Rattle.verdict.specs.Judgement.{Holds, ExactIs, over, searched, refused_alone, Judges, JudgeAnswer, refused, judged}
+use Rattle.verdict.specs.Judgement.{Holds, ExactIs, over, searched, Judges, JudgeAnswer, refused, judged}
 use Rattle.verdict.specs.Refusal.{log_refusal, search_refusal}
 use Rattle.verdict.specs.Exact.{Exact}
 use Rattle.verdict.specs.Answers.{Passed, Refused}
@@ -18,7 +19,7 @@ use Rattle.verdict.specs.declared.answers.Exactness.TheVariants.{Over, Searched}
 use Rattle.verdict.specs.declared.answers.Witnessed.{Witnessed}
 use Rattle.verdict.specs.declared.answers.ExactWitnessed.{ExactWitnessed}
 use Rattle.verdict.specs.declared.answers.Judgement.{Judgement}
-use Rattle.verdict.proofs.WellFormed.{refused≢passed}
+use Rattle.verdict.proofs.Refused.{one_number, one_place}
 use Rattle.verdict.proofs.Threes.{plain_length, threes_length, read_entries}
 use Rattle.text.specs.Bytes.{bytes, line_end}
 use Rattle.text.specs.Line.{item}
@@ -92,19 +93,10 @@ module _ {log : List ℕ} {found : ExactWitnessed} (is : ExactIs log found) wher
         go (searched b e f h) = let i : b ≡ a = cc in (e, rw i at h)
 
 -- WHAT `judge` ANSWERS, WHERE ITS CASE IS KNOWN
-module _ {log : List ℕ} {j : Judgement} (is : JudgeAnswer log j) where
-  pub judge_refused : {n p : ℕ} → j.checked ≡ Refused n p → log_refusal log ≡ Refused n p
-  unfolding refused_alone
-  judge_refused {n} {p} k = go is
-    where
-      go : JudgeAnswer log j → log_refusal log ≡ Refused n p
-      go (refused m q e f) = e ∙ sym (ap (λ (x : Judgement). x.checked) f) ∙ k
-      go (judged e h) = absurd (refused≢passed (sym k ∙ h.passed))
+pub judge_refused : {log : List ℕ} {n p : ℕ} → JudgeAnswer log (Refused n p) → log_refusal log ≡ Refused n p
+judge_refused {n} {p} (refused m q e f) = e ∙ ap (λ (k : ℕ). Refused k q) (sym (one_number f)) ∙ ap (Refused n) (sym (one_place f))
+judge_refused (judged j e f h) = let z : ◌≡◌ {A = ℕ} 0 1 = cc in absurd (omega arith)
 
-  pub judge_passed : j.checked ≡ Passed → (log_refusal log ≡ Passed) × Judges log j
-  unfolding refused_alone
-  judge_passed k = go is
-    where
-      go : JudgeAnswer log j → (log_refusal log ≡ Passed) × Judges log j
-      go (refused m q e f) = absurd (refused≢passed (sym (ap (λ (x : Judgement). x.checked) f) ∙ k))
-      go (judged e h) = (e, h)
+pub judge_passed : {log : List ℕ} {j : Judgement} → JudgeAnswer log (Ok j) → (log_refusal log ≡ Passed) × Judges log j
+judge_passed (refused m q e f) = let z : ◌≡◌ {A = ℕ} 0 1 = cc in absurd (omega arith)
+judge_passed {log} {j} (judged i e f h) = let g : i ≡ j = cc in (e, rw g at h)

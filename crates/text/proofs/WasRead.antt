@@ -1,4 +1,5 @@
 -- What is known after a call of `read` with a step buffer of the right length: the refusal's report, or the log that was read.
+use Rattle.std.specs.Prelude.{Result, Ok}
 use mathlib.Core.Path.{◌≡◌, sym, ap, ◌∙◌}
 use mathlib.Core.List.{List}
 use Prim.Native.Nat.{ℕ, ◌-◌, ◌*◌, ◌≤◌}
@@ -9,14 +10,14 @@ use Rattle.words.specs.Lists.{zeros, entries}
 use Rattle.verdict.specs.Limits.{most_steps}
 use Rattle.verdict.specs.Log.{steps}
 use Rattle.verdict.specs.Answers.{Passed, Refused}
+use Rattle.verdict.specs.declared.answers.Refusal.{Refusal}
 use Rattle.verdict.specs.Call.{turned_away, answered}
 use Rattle.verdict.proofs.Only.{buffer_one}
+use Rattle.verdict.proofs.Refused.{one_number, one_place}
 use Rattle.text.specs.Reading.{Says}
-use Rattle.text.specs.ReadCall.{most_bytes, step_entries, ReadRefusal, wrong_buffer, too_long, by_line, said_steps, leaves_steps, ReadCall}
+use Rattle.text.specs.ReadCall.{most_bytes, step_entries, ReadRefusal, wrong_buffer, too_long, by_line, leaves_steps, ReadCall}
 use Rattle.text.specs.ReportLine.{refused_line}
 use Rattle.text.specs.Report.{ReportOf, text_too_long, text_refused}
-use Rattle.text.specs.declared.TextAnswer.{TextAnswer}
-use Rattle.text.specs.declared.TextAnswer.TheVariants as text_answer
 use Rattle.text.proofs.Runs.{steps_length}
 use Rattle.text.proofs.Only.{steps_count}
 
@@ -38,17 +39,14 @@ module _ (text buffer : List ℕ) (size : length buffer ≡ step_entries) where
   by_refusal (too_long h k) = text_too_long k
   by_refusal (by_line h k r) = text_refused _ _ k r
 
-  pub refused_report : {n p : ℕ} {buffer' : List ℕ} → ReadCall text buffer (text_answer.Refused n p) buffer' → ReportOf text (refused_line n p)
-  unfolding said_steps
+  pub refused_report : {n p : ℕ} {buffer' : List ℕ} → ReadCall text buffer (Refused n p) buffer' → ReportOf text (refused_line n p)
   refused_report {n} {p} (turned_away m q g e f) =
-      let i : n ≡ m = cc in
-      let j : p ≡ q = cc in
-      rw (i, j) (by_refusal g)
+      rw (one_number e, one_place e) (by_refusal g)
   refused_report (answered log g h e f) = let z : ◌≡◌ {A = ℕ} 0 1 = cc in absurd (omega arith)
 
 -- the steps
-pub was_read : {text buffer : List ℕ} {n : ℕ} {buffer' : List ℕ} → ReadCall text buffer (text_answer.Accepted n) buffer' → Was text buffer' n
-unfolding said_steps leaves_steps entries
+pub was_read : {text buffer : List ℕ} {n : ℕ} {buffer' : List ℕ} → ReadCall text buffer (Ok n) buffer' → Was text buffer' n
+unfolding leaves_steps entries
 was_read (turned_away m q g e f) = let z : ◌≡◌ {A = ℕ} 0 1 = cc in absurd (omega arith)
 was_read {n} (answered log g h e f) =
     let i : n ≡ steps log = cc in
@@ -63,6 +61,6 @@ was_read {n} (answered log g h e f) =
     }
 
 -- they are within their buffer
-pub steps_within_buffer : {text buffer buffer' : List ℕ} {r : TextAnswer} {n : ℕ} → r ≡ text_answer.Accepted n → length buffer' ≡ step_entries
+pub steps_within_buffer : {text buffer buffer' : List ℕ} {r : Result ℕ Refusal} {n : ℕ} → r ≡ Ok n → length buffer' ≡ step_entries
     → ReadCall text buffer r buffer' → (n ≤ most_steps) × (4 * n ≤ length buffer')
 steps_within_buffer e size c = let w = was_read (rw e at c) in (w.few, omega (arith, w.few))

@@ -1,4 +1,5 @@
 -- The words of the kinds: which stands at a place, and that no two can stand at one.
+use Rattle.std.specs.Prelude.{Some}
 use mathlib.Core.Path.{◌≡◌, refl, sym, ap, subst, ◌∙◌}
 use mathlib.Core.Bool.{Bool, true, false}
 use mathlib.Core.List.{List, ◌++◌}
@@ -12,7 +13,6 @@ use Rattle.words.proofs.Truth.{decide, not_both, and→, upto→, is→, isnt→
 use Rattle.text.specs.Bytes.{bytes}
 use Rattle.text.specs.Line.{word, item, op, has_word}
 use Rattle.text.specs.Inner.Finds.{starts, Finds}
-use Rattle.text.specs.declared.number.Number.TheVariants.{At}
 use Rattle.text.proofs.Fronts.{→starts}
 use Rattle.text.proofs.Items.{stands_there, stands_fits}
 
@@ -83,7 +83,7 @@ word_length k = go (k is 1) (k is 2) (k is 3) (k is 4)
     go false false false false = omega arith
 
 -- a kind that stands there
-pub op_stands : (text : List ℕ) (at : ℕ) {k : ℕ} → Kind k → at ≤ length text → starts (op k) (drop at text) ≡ true → Finds op has_word text at (At k (at + length (op k)))
+pub op_stands : (text : List ℕ) (at : ℕ) {k : ℕ} → Kind k → at ≤ length text → starts (op k) (drop at text) ≡ true → Finds op has_word text at (Some (k, at + length (op k)))
 op_stands text at {k} i h s = (kind_word i, stands_fits text at (op k) h s, stands_there text at (op k) s)
 
 -- none of the five stands there

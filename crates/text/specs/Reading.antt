@@ -1,7 +1,7 @@
 -- What the lines of a text give, first line first: 16, 2, or the steps.
 use Rattle.std.specs.Prelude.{◌≡◌, true, List, ◌∷◌, ◌++◌, ℕ, suc, ◌≤◌, ◌<◌}
 use Rattle.verdict.specs.Limits.{most_steps}
-use Rattle.verdict.specs.Answers.{Checked}
+use Rattle.verdict.specs.Answers.{Checked, Passed, Refused}
 use Rattle.text.specs.Line.{header, line, sayable, sayable_step}
 use Rattle.text.specs.Text.{lines, text_of, Steps}
 
@@ -22,13 +22,13 @@ pub record Says (bytes log : List ℕ) : Type 0 where
 
 pub data Reading (bytes : List ℕ) : Checked → Type 0 where
   -- line 0 departs from the form
-  no_header : NoHeader bytes → Reading bytes (Checked.Refused 16 0)
+  no_header : NoHeader bytes → Reading bytes (Refused 16 0)
   -- the header says more steps than a log may have, whatever follows it
-  too_many : (n : ℕ) (rest : List ℕ) → sayable n ≡ true → most_steps < n → bytes ≡ header n ++ rest → Reading bytes (Checked.Refused 2 0)
+  too_many : (n : ℕ) (rest : List ℕ) → sayable n ≡ true → most_steps < n → bytes ≡ header n ++ rest → Reading bytes (Refused 2 0)
   -- i lines are in form, fewer than the header says, and what follows does not begin with another
   bad_line : (n i : ℕ) (log rest : List ℕ) → n ≤ most_steps → i < n → Steps i log → bytes ≡ header n ++ lines i log ++ rest → NoLine rest
-      → Reading bytes (Checked.Refused 16 (suc i))
+      → Reading bytes (Refused 16 (suc i))
   -- all lines are in form, and something stands behind them
-  extra : (n b : ℕ) (log rest : List ℕ) → n ≤ most_steps → Steps n log → bytes ≡ header n ++ lines n log ++ b ∷ rest → Reading bytes (Checked.Refused 16 (suc n))
+  extra : (n b : ℕ) (log rest : List ℕ) → n ≤ most_steps → Steps n log → bytes ≡ header n ++ lines n log ++ b ∷ rest → Reading bytes (Refused 16 (suc n))
   -- a whole text
-  in_form : (log : List ℕ) → Says bytes log → Reading bytes Checked.Passed
+  in_form : (log : List ℕ) → Says bytes log → Reading bytes Passed

@@ -9,7 +9,8 @@ use Rattle.verdict.specs.Outcome.{Outcome}
 use Rattle.verdict.specs.Conflict.{Conflict}
 use Rattle.verdict.specs.Version.{Version}
 use Rattle.verdict.specs.Exact.{Exact}
-use Rattle.verdict.specs.Answers.{Checked}
+use Rattle.verdict.specs.Answers.{Passed, Refused}
+use Rattle.verdict.specs.declared.answers.Refusal.{Refusal}
 use Rattle.text.specs.Bytes.{bytes}
 use Rattle.text.specs.Line.{header}
 use Rattle.text.specs.Reading.{Says, Reading}
@@ -24,8 +25,8 @@ pub data VersionLine (log : List ℕ) : List ℕ → Type 0 where
   version_line : {a : Outcome} → Version transactions log a → VersionLine log (outcome_line (bytes "version=") a)
 
 pub data ExactLine (log : List ℕ) : List ℕ → Type 0 where
-  exact_over : (n : ℕ) → search_refusal log ≡ Checked.Refused 13 n → ExactLine log over_line
-  exact_line : {a : Outcome} → search_refusal log ≡ Checked.Passed → Exact transactions log a → ExactLine log (outcome_line (bytes "exact=") a)
+  exact_over : (n : ℕ) → search_refusal log ≡ Refused 13 n → ExactLine log over_line
+  exact_line : {a : Outcome} → search_refusal log ≡ Passed → Exact transactions log a → ExactLine log (outcome_line (bytes "exact=") a)
 
 -- the lines before them
 unfoldable pub first_lines : List ℕ → List ℕ
@@ -38,9 +39,9 @@ first_lines log =
 -- the report of a log
 pub data LogReport (log : List ℕ) : List ℕ → Type 0 where
   -- a number turns it away
-  log_refused : (number place : ℕ) → log_refusal log ≡ Checked.Refused number place → LogReport log (refused_line number place)
+  log_refused : (number place : ℕ) → log_refusal log ≡ Refused number place → LogReport log (refused_line number place)
   -- a well_formed log
-  judged : {conflict version exact : List ℕ} → log_refusal log ≡ Checked.Passed → ConflictLine log conflict → VersionLine log version → ExactLine log exact
+  judged : {conflict version exact : List ℕ} → log_refusal log ≡ Passed → ConflictLine log conflict → VersionLine log version → ExactLine log exact
       → LogReport log (first_lines log ++ conflict ++ version ++ exact)
 
 -- the report of a text
@@ -48,6 +49,6 @@ pub data ReportOf (text : List ℕ) : List ℕ → Type 0 where
   -- the text is too long
   text_too_long : most_bytes < length text → ReportOf text (refused_line 15 0)
   -- a line departs from the text form, or the header says too many steps
-  text_refused : (number place : ℕ) → length text ≤ most_bytes → Reading text (Checked.Refused number place) → ReportOf text (refused_line number place)
+  text_refused : (number place : ℕ) → length text ≤ most_bytes → Reading text (Refused number place) → ReportOf text (refused_line number place)
   -- the text says a log
   text_read : (log : List ℕ) {w : List ℕ} → length text ≤ most_bytes → Says text log → LogReport log w → ReportOf text w

@@ -1,13 +1,12 @@
 -- What a call of `write` answers, and what it leaves in the lent buffer: 02 §2.
-use Rattle.std.specs.Prelude.{◌≡◌, List, [], ◌∷◌, ℕ, length}
+use Rattle.std.specs.Prelude.{◌≡◌, List, [], ◌∷◌, ℕ, length, Result}
 use Rattle.words.specs.Tests.{◌is◌, fails}
 use Rattle.words.specs.Lists.{entries}
 use Rattle.verdict.specs.Refusal.{◌at◌when◌, ◌else_try◌, log_refusal}
 use Rattle.verdict.specs.Call.{Call}
 use Rattle.verdict.specs.Answers.{Checked}
+use Rattle.verdict.specs.declared.answers.Refusal.{Refusal}
 use Rattle.text.specs.Text.{text_of}
-use Rattle.text.specs.ReportCall.{said_length}
-use Rattle.text.specs.declared.TextAnswer.{TextAnswer}
 
 -- the buffer for a text has 33,803 bytes, and the text of every well_formed log fits
 abbrev pub text_bytes : ℕ
@@ -22,6 +21,6 @@ unfoldable pub leaves_text : List ℕ → List (List ℕ)
 leaves_text w = entries text_bytes w ∷ []
 
 -- what `write` answers and leaves: the text of the log, and its length
-abbrev pub WriteCall : (log out : List ℕ) → TextAnswer → (out' : List ℕ) → Type 0
+abbrev pub WriteCall : (log out : List ℕ) → Result ℕ Refusal → (out' : List ℕ) → Type 0
 WriteCall log out r out' =
-    Call (λ f. f ≡ write_refusal log out) TextAnswer.Refused (λ w. w ≡ text_of log) said_length leaves_text (out ∷ []) r (out' ∷ [])
+    Call (λ f. f ≡ write_refusal log out) (λ w. w ≡ text_of log) length leaves_text (out ∷ []) r (out' ∷ [])

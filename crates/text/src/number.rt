@@ -4,13 +4,6 @@ ghost use Rattle.text.specs.Decimal.{decimal};
 ghost use Rattle.text.specs.Line.{sayable, item as Line·item};
 ghost use Rattle.text.specs.Inner.Finds.{starts, Finds, is_digit};
 
-// What stands at a place: a number, and the place behind it; or no number in form.
-#[derive(Clone, Copy)]
-pub enum Number {
-    At(u16, usize),
-    Bad,
-}
-
 // Whether b is a digit.
 fn is_digit(b: u8) -> bool
     ensures { result ≡ is_digit b }
@@ -39,47 +32,47 @@ pub(crate) fn stands(text: &[u8], at: usize, word: &[u8]) -> bool
     true
 }
 
-// The number at this place, which ends at the byte `behind`.
-fn number_at(text: &[u8], at: usize, behind: u8) -> Number
+// The number at this place, which ends at the byte `behind`, and the place behind that byte.
+fn number_at(text: &[u8], at: usize, behind: u8) -> Option<(u16, usize)>
     requires { is_digit behind ≡ false }
     ensures { Finds (λ (n : ℕ). decimal n ++ behind ∷ []) sayable text.now at result }
 {
     if text.len() <= at {
-        return Number::Bad;
+        return None;
     }
     let first = text[at];
     if !is_digit(first) {
-        return Number::Bad;
+        return None;
     }
     let mut value = (first - b'0') as usize;
     let mut i = at + 1;
     while i < text.len() {
         let b = text[i];
         if b == behind {
-            return Number::At(value as u16, i + 1);
+            return Some((value as u16, i + 1));
         }
         if !is_digit(b) {
-            return Number::Bad;
+            return None;
         }
         if value == 0 {
-            return Number::Bad;
+            return None;
         }
         value = 10 * value + (b - b'0') as usize;
         if 65535 < value {
-            return Number::Bad;
+            return None;
         }
         i += 1;
     }
-    Number::Bad
+    None
 }
 
-// The number of this key at this place, which ends at the byte `behind`.
-pub(crate) fn item_at(text: &[u8], at: usize, key: &[u8], behind: u8) -> Number
+// The number of this key at this place, which ends at the byte `behind`, and the place behind that byte.
+pub(crate) fn item_at(text: &[u8], at: usize, key: &[u8], behind: u8) -> Option<(u16, usize)>
     requires { (at ≤ length text.now) × (is_digit behind ≡ false) }
     ensures { Finds (λ (n : ℕ). Line·item key.now (decimal n) behind) sayable text.now at result }
 {
     if !stands(text, at, key) {
-        return Number::Bad;
+        return None;
     }
     number_at(text, at + key.len(), behind)
 }

@@ -3,20 +3,17 @@ ghost use Rattle.text.specs.OneLine.{SaysLine};
 ghost use Rattle.text.specs.Inner.Finds.{FindsHeader};
 
 use crate::OneLine;
-use crate::line::{Line, line_at};
-use crate::number::{Number, item_at};
+use crate::line::line_at;
+use crate::number::item_at;
 
 // Whether the bytes are a header and no more.
 fn is_header(bytes: &[u8]) -> bool
     ensures { FindsHeader bytes.now result }
 {
-    let Number::At(_, behind) = item_at(bytes, 0, b"steps=", b'\n') else {
-        return false;
-    };
-    if behind < bytes.len() {
-        return false;
+    match item_at(bytes, 0, b"steps=", b'\n') {
+        Some((_, behind)) => bytes.len() <= behind,
+        None => false,
     }
-    true
 }
 
 // What the line of these bytes says.
@@ -26,11 +23,11 @@ pub fn read_line(bytes: &[u8]) -> OneLine
     if is_header(bytes) {
         return OneLine::Header;
     }
-    let Line::At(k, t, x, s, end) = line_at(bytes, 0) else {
+    let Some((step, end)) = line_at(bytes, 0) else {
         return OneLine::Other;
     };
     if end < bytes.len() {
         return OneLine::Other;
     }
-    OneLine::Step(k, t, x, s)
+    OneLine::Step(step.kind, step.tx, step.obj, step.src)
 }

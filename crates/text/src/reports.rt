@@ -15,9 +15,9 @@ ghost use Rattle.text.specs.Inner.Put.{Puts, PutsLine, most_long, most_exact};
 use crate::clear::clear_bytes_from;
 use crate::put::{put_item, put_word};
 use crate::report_line::{put_answer, put_clean, put_refused, put_snapshot};
-use crate::{Text, TextAnswer, read};
+use crate::{Text, read};
 use verdict::answers::{
-    Checked, Cleanness, ExactWitnessed, Exactness, Judgement, Snapshot, Witnessed,
+    Cleanness, ExactWitnessed, Exactness, Judgement, Refusal, Snapshot, Witnessed,
 };
 use verdict::{Log, committed_count, judge};
 
@@ -86,11 +86,9 @@ fn put_log(log: &[u16], out: &mut [u8]) -> usize
     requires { length out.old ≡ report_bytes }
     ensures { PutsLine report_bytes (LogReport log.now) 0 out.old result out.new }
 {
-    let judgement = judge(log);
-    let checked = judgement.checked;
-    match checked {
-        Checked::Refused(number, place) => put_refused(out, number, place),
-        Checked::Passed => put_verdicts(log, judgement, out),
+    match judge(log) {
+        Err(Refusal(number, place)) => put_refused(out, number, place),
+        Ok(judgement) => put_verdicts(log, judgement, out),
     }
 }
 
@@ -100,24 +98,23 @@ fn put_text(text: &[u8], out: &mut [u8]) -> usize
     ensures { PutsLine report_bytes (ReportOf text.now) 0 out.old result out.new }
 {
     let mut steps = [0u16; 4 * Log::LIMIT];
-    let answer = read(text, &mut steps);
-    match answer {
-        TextAnswer::Refused(number, place) => put_refused(out, number, place),
-        TextAnswer::Accepted(n) => {
+    match read(text, &mut steps) {
+        Err(Refusal(number, place)) => put_refused(out, number, place),
+        Ok(n) => {
             let end = 4 * n;
             put_log(&steps[..end], out)
         }
     }
 }
 
-// The report of a text, put first in its buffer with zeros behind it. A refusal, which is always 12, changes nothing.
-pub fn report(text: &[u8], out: &mut [u8]) -> TextAnswer
+// The report of a text, put first in its buffer with zeros behind it, and its length. A refusal, which is always 12, changes nothing.
+pub fn report(text: &[u8], out: &mut [u8]) -> Result<usize, Refusal>
     ensures { ReportCall text.now out.old result out.new }
 {
     if out.len() != Text::REPORT {
-        return TextAnswer::Refused(12, 0);
+        return Err(Refusal(12, 0));
     }
     let n = put_text(text, out);
     clear_bytes_from(out, n);
-    TextAnswer::Accepted(n)
+    Ok(n)
 }

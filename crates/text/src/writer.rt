@@ -10,11 +10,11 @@ ghost use Rattle.text.specs.Inner.Put.{Fits, Leads};
 ghost use Rattle.text.specs.Inner.StepLine.{line_of, Small};
 ghost use Rattle.text.specs.Inner.Ready.{ReadyDigits};
 
+use crate::Text;
 use crate::clear::clear_bytes_from;
 use crate::put::{put_item, put_word};
 use crate::ready::{put_low, put_small, ready_digits, ready_word};
-use crate::{Text, TextAnswer};
-use verdict::answers::Checked;
+use verdict::answers::Refusal;
 use verdict::check;
 
 // Puts the front of a step's line, by its kind.
@@ -64,20 +64,15 @@ fn put_steps(log: &[u16], out: &mut [u8]) -> usize
     put_lines(out, a, log)
 }
 
-// The text of a log, put first in its buffer with zeros behind it. A refusal leaves the buffer as it was.
-pub fn write(log: &[u16], out: &mut [u8]) -> TextAnswer
+// The text of a log, put first in its buffer with zeros behind it, and its length. A refusal leaves the buffer as it was.
+pub fn write(log: &[u16], out: &mut [u8]) -> Result<usize, Refusal>
     ensures { WriteCall log.now out.old result out.new }
 {
     if out.len() != Text::WRITTEN {
-        return TextAnswer::Refused(12, 0);
+        return Err(Refusal(12, 0));
     }
-    let checked = check(log);
-    match checked {
-        Checked::Refused(number, place) => TextAnswer::Refused(number, place),
-        Checked::Passed => {
-            let n = put_steps(log, out);
-            clear_bytes_from(out, n);
-            TextAnswer::Accepted(n)
-        }
-    }
+    check(log)?;
+    let n = put_steps(log, out);
+    clear_bytes_from(out, n);
+    Ok(n)
 }

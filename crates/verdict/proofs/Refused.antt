@@ -21,12 +21,12 @@ place_of : {A : Type 0} → Result A Refusal → ℕ
 place_of (Ok _) = 0
 place_of (Err e) = e.1
 
-module _ {n p m q : ℕ} where
-  pub one_number : Refused {A = Unit {0}} n p ≡ Refused m q → n ≡ m
+module _ {A : Type 0} {n p m q : ℕ} where
+  pub one_number : Refused {A = A} n p ≡ Refused m q → n ≡ m
   unfolding number_of
   one_number e = ap number_of e
 
-  pub one_place : Refused {A = Unit {0}} n p ≡ Refused m q → p ≡ q
+  pub one_place : Refused {A = A} n p ≡ Refused m q → p ≡ q
   unfolding place_of
   one_place e = ap place_of e
 
