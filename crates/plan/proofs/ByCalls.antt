@@ -1,5 +1,6 @@
 -- The judge and the planner over the contracts of `accepts` and `redo`, whatever results these allow: each has one result; the judge says yes to what the
 -- planner writes; for a log already fine that is the empty proposal; and inside a proposal that will do there is no smaller one that will.
+use Rattle.std.specs.Prelude.{Result, Ok}
 use mathlib.Core.Path.{◌≡◌, refl, sym, ap, subst, fun_ext, ◌∙◌}
 use mathlib.Core.Bool.{Bool, true, false}
 use mathlib.Core.List.{List, [], ◌∷◌}
@@ -27,11 +28,10 @@ use Rattle.plan.specs.WillDo.{WillDo}
 use Rattle.plan.specs.Proposal.{proposal_entries, proposes, length_refusal, proposal_refusal}
 use Rattle.plan.specs.AcceptsCall.{Accepts, accepts_yes, accepts_no, AcceptsCall}
 use Rattle.plan.specs.Redo.{rising, GivesBack, Redo, redo}
-use Rattle.plan.specs.RedoCall.{says_members, leaves_proposal, RedoCall}
+use Rattle.plan.specs.RedoCall.{leaves_proposal, RedoCall}
 use Rattle.plan.specs.declared.answers.Acceptance.{Acceptance}
 use Rattle.plan.specs.declared.answers.Acceptance.TheVariants.{Yes}
-use Rattle.plan.specs.declared.answers.AcceptsAnswer.{AcceptsAnswer}
-use Rattle.plan.specs.declared.answers.RedoAnswer.{RedoAnswer}
+use Rattle.verdict.specs.declared.answers.Refusal.{Refusal}
 use Rattle.plan.specs.Inner.Trials.{Within}
 use Rattle.plan.proofs.AllBack.{all_back_fine, none_back}
 use Rattle.plan.proofs.Choice.{gives_one, gives_within, gives_right}
@@ -48,10 +48,10 @@ accepts_one a b (accepts_no n) (accepts_no m) = refl
 redo_one : {most : ℕ} {log : List ℕ} (v w : List ℕ) → Redo most log v → Redo most log w → v ≡ w
 redo_one {most} {log} v w (redo x) (redo y) = ap (rising (suc most)) (gives_one most log x y)
 
-pub accepts_call_one : (log proposal : List ℕ) {work : List ℕ} {r s : AcceptsAnswer} {v w : List ℕ} → AcceptsCall log proposal work r v → AcceptsCall log proposal work s w → (r ≡ s) × (v ≡ w)
+pub accepts_call_one : (log proposal : List ℕ) {work : List ℕ} {r s : Result Acceptance Refusal} {v w : List ℕ} → AcceptsCall log proposal work r v → AcceptsCall log proposal work s w → (r ≡ s) × (v ≡ w)
 accepts_call_one log proposal p q = let e = call_one (λ f g h k. h ∙ sym k) accepts_one p q in (e.0, buffer_one e.1)
 
-pub redo_call_one : (log : List ℕ) {work proposal : List ℕ} {r s : RedoAnswer} {v w x y : List ℕ} → RedoCall log work proposal r v x → RedoCall log work proposal s w y → (r ≡ s) × (v ≡ w) × (x ≡ y)
+pub redo_call_one : (log : List ℕ) {work proposal : List ℕ} {r s : Result ℕ Refusal} {v w x y : List ℕ} → RedoCall log work proposal r v x → RedoCall log work proposal s w y → (r ≡ s) × (v ≡ w) × (x ≡ y)
 redo_call_one log p q = let e = call_one (λ f g h k. h ∙ sym k) redo_one p q in let f = buffers_one e.1 in (e.0, f.0, f.1)
 
 -- WHAT THE PLANNER WRITES
@@ -62,8 +62,8 @@ pub record Written (log proposal' : List ℕ) (n : ℕ) : Type 0 where
   pub counted : n ≡ length (rising (suc transactions) rest)
   pub laid : proposal' ≡ entries proposal_entries (rising (suc transactions) rest)
 
-written : {log work proposal work' proposal' : List ℕ} {n : ℕ} → RedoCall log work proposal (RedoAnswer.Proposed n) work' proposal' → Written log proposal' n
-unfolding says_members leaves_proposal
+written : {log work proposal work' proposal' : List ℕ} {n : ℕ} → RedoCall log work proposal (Ok n) work' proposal' → Written log proposal' n
+unfolding leaves_proposal
 written (turned_away m p g e k) = let z : ◌≡◌ {A = ℕ} 0 1 = cc in absurd (omega arith)
 written {log} {proposal'} {n} (answered w g (redo {rest} x) e k) =
     record { well = (else_try→ (else_try→ (sym g)).1).1; rest = rest; ends = x; counted = cc; laid = (buffers_one k).1 }
@@ -115,20 +115,20 @@ module _ (log : List ℕ) {proposal' : List ℕ} {n : ℕ} (w : Written log prop
       (ap (λ (l : List ℕ). all (λ t. t is 0) (from_zero l)) w.laid ∙ ap (all (λ t. t is 0)) (back_held (rising (suc transactions) w.rest) _ no_zero) ∙ all_zero _)))
 
 -- The judge says yes to what the planner writes.
-pub redo_accepted : (log : List ℕ) {work proposal work' proposal' : List ℕ} {n : ℕ} → RedoCall log work proposal (RedoAnswer.Proposed n) work' proposal'
-    → {area area' : List ℕ} {r : AcceptsAnswer} → length area ≡ work_bytes → AcceptsCall log proposal' area r area' → r ≡ AcceptsAnswer.Judged Yes
+pub redo_accepted : (log : List ℕ) {work proposal work' proposal' : List ℕ} {n : ℕ} → RedoCall log work proposal (Ok n) work' proposal'
+    → {area area' : List ℕ} {r : Result Acceptance Refusal} → length area ≡ work_bytes → AcceptsCall log proposal' area r area' → r ≡ Ok Yes
 redo_accepted log {proposal'} {n} c {area} {area'} {r} l a = go a
   where
     w : Written log proposal' n
     w = written c
 
-    go : AcceptsCall log proposal' area r area' → r ≡ AcceptsAnswer.Judged Yes
+    go : AcceptsCall log proposal' area r area' → r ≡ Ok Yes
     go (turned_away m p g e k) = absurd (refused≢passed (g ∙ both_passed (work_passed area l) (both_passed (size log w) (both_passed w.well (in_form log w)))))
     go (answered o g (accepts_yes v) e k) = e
     go (answered o g (accepts_no x) e k) = absurd (x (subst (WillDo transactions log) (sym (proposes_rest log w)) (will_do log w)))
 
 -- For a log already fine the planner writes the empty proposal.
-pub redo_empty : (log : List ℕ) {work proposal work' proposal' : List ℕ} {n : ℕ} → Fine transactions log → RedoCall log work proposal (RedoAnswer.Proposed n) work' proposal'
+pub redo_empty : (log : List ℕ) {work proposal work' proposal' : List ℕ} {n : ℕ} → Fine transactions log → RedoCall log work proposal (Ok n) work' proposal'
     → (n ≡ 0) × (proposal' ≡ zeros proposal_entries)
 unfolding entries
 redo_empty log {proposal'} {n} f c =
@@ -148,14 +148,14 @@ unfolding proposal_refusal proposes
 named_committed log l f t m = all→ _ (up_to_zero l) (and→ (and→ (not_fails→ (when→ 19 0 _ f))).0).1 t m
 
 -- Inside a proposal that will do there is no smaller one that will.
-pub accepted_least : (log : List ℕ) {p q area area' room room' : List ℕ} → AcceptsCall log p area (AcceptsAnswer.Judged Yes) area' → AcceptsCall log q room (AcceptsAnswer.Judged Yes) room'
+pub accepted_least : (log : List ℕ) {p q area area' room room' : List ℕ} → AcceptsCall log p area (Ok Yes) area' → AcceptsCall log q room (Ok Yes) room'
     → ((t : ℕ) → proposes p t ≡ true → proposes q t ≡ true) → (t : ℕ) → proposes q t ≡ true → proposes p t ≡ true
 accepted_least log {p} {q} a b within =
     let x = accepted a in
     let y = accepted b in
     none_inside log x.0 (proposes p) (proposes q) within (named_committed log q y.1) x.2.fine y.2
   where
-    accepted : {l v v' : List ℕ} → AcceptsCall log l v (AcceptsAnswer.Judged Yes) v' → (log_refusal log ≡ Passed) × (proposal_refusal log l ≡ Passed) × WillDo transactions log (proposes l)
+    accepted : {l v v' : List ℕ} → AcceptsCall log l v (Ok Yes) v' → (log_refusal log ≡ Passed) × (proposal_refusal log l ≡ Passed) × WillDo transactions log (proposes l)
     accepted (turned_away m k g e z) = let y : ◌≡◌ {A = ℕ} 0 1 = cc in absurd (omega arith)
     accepted (answered o g (accepts_no n) e z) = let y : ◌≡◌ {A = ℕ} 0 1 = cc in absurd (omega arith)
     accepted (answered o g (accepts_yes v) e z) = let s = else_try→ (else_try→ (else_try→ (sym g)).1).1 in (s.0, s.1, v)

@@ -7,21 +7,19 @@ use Rattle.words.specs.Lists.{zeros}
 use Rattle.verdict.specs.Limits.{transactions}
 use Rattle.verdict.specs.Call.{answered}
 use Rattle.verdict.specs.Refusal.{◌else_try◌, log_refusal, work_refusal}
-use Rattle.verdict.specs.Answers.{Checked}
-use Rattle.verdict.specs.Answers.{Passed, Refused}
+use Rattle.std.specs.Prelude.{Ok}
+use Rattle.verdict.specs.Answers.{Checked, Passed, Refused}
 use Rattle.words.proofs.Truth.{is→, not_fails→}
-use Rattle.verdict.proofs.WellFormed.{else_try→, when→, refused≢passed}
+use Rattle.verdict.proofs.WellFormed.{else_try→, when→}
 use Rattle.verdict.proofs.Refused.{tried_refused, tried_passed, try_more}
 use Rattle.verdict.proofs.Frame.{work_length, both_passed}
-use Rattle.plan.specs.Proposal.{proposal_entries, proposes, length_refusal, proposal_refusal}
+use Rattle.plan.specs.Proposal.{proposal_entries, proposes, length_refusal}
 use Rattle.plan.specs.WillDo.{WillDo}
 use Rattle.plan.specs.AcceptsCall.{Accepts, accepts_yes, accepts_no}
 use Rattle.plan.specs.Redo.{rising, redo}
-use Rattle.plan.specs.RedoCall.{says_members, leaves_proposal, RedoCall}
-use Rattle.plan.specs.declared.answers.RedoAnswer.{RedoAnswer}
+use Rattle.plan.specs.RedoCall.{leaves_proposal, RedoCall}
 use Rattle.plan.specs.declared.answers.Acceptance.{Acceptance}
-use Rattle.plan.specs.declared.refusal.Proposed.{Proposed}
-use Rattle.plan.specs.Inner.Marks.{table, marked, Proposes, turned_away, taken}
+use Rattle.plan.specs.Inner.Marks.{table, marked}
 use Rattle.plan.specs.Inner.Trials.{Judges, yes, no}
 use Rattle.plan.specs.Inner.Planning.{Planned}
 use Rattle.plan.specs.Inner.Laying.{Laid}
@@ -32,32 +30,16 @@ unfolding length_refusal
 proposal_length proposal e = is→ (not_fails→ (when→ 12 0 _ e))
 
 -- the numbers that are tried first: a, b and l, and then s
-module _ (a b l s : Checked) {r : Checked} (found : r ≡ (a else_try b else_try l)) where
-  pub refused_early : {n p : ℕ} → r ≡ Refused n p → Refused n p ≡ (a else_try b else_try l else_try s)
-  refused_early e = sym (try_more a b l s ∙ tried_refused s (sym found ∙ e))
+module _ (a b l s : Checked) where
+  pub refused_early : {n p : ℕ} → (a else_try b else_try l) ≡ Refused n p → Refused n p ≡ (a else_try b else_try l else_try s)
+  refused_early e = sym (try_more a b l s ∙ tried_refused s e)
 
-  module _ (e : r ≡ Passed) where
+  module _ (e : (a else_try b else_try l) ≡ Passed) where
     pub all_passed : (a ≡ Passed) × (b ≡ Passed) × (l ≡ Passed)
-    all_passed = let p = else_try→ (sym found ∙ e) in let q = else_try→ p.1 in (p.0, q.0, q.1)
+    all_passed = let p = else_try→ e in let q = else_try→ p.1 in (p.0, q.0, q.1)
 
     pub then_tried : {t : Checked} → s ≡ t → t ≡ (a else_try b else_try l else_try s)
-    then_tried f = sym (try_more a b l s ∙ tried_passed s (sym found ∙ e) ∙ f)
-
--- 19, by what was found of the proposal
-module _ {log proposal : List ℕ} {p : Proposed} (f : Proposes log proposal p) where
-  pub proposal_refused : {n q : ℕ} → p.checked ≡ Refused n q → proposal_refusal log proposal ≡ Refused n q
-  proposal_refused {n} {q} e = go f
-    where
-      go : Proposes log proposal p → proposal_refusal log proposal ≡ Refused n q
-      go (turned_away g h) = g ∙ sym h ∙ e
-      go (taken g h l x) = absurd (refused≢passed (sym e ∙ h))
-
-  pub proposal_taken : p.checked ≡ Passed → (proposal_refusal log proposal ≡ Passed) × (length p.marks ≡ table) × ((t : ℕ) → marked p.marks t ≡ proposes proposal t)
-  proposal_taken e = go f
-    where
-      go : Proposes log proposal p → (proposal_refusal log proposal ≡ Passed) × (length p.marks ≡ table) × ((t : ℕ) → marked p.marks t ≡ proposes proposal t)
-      go (turned_away g h) = absurd (refused≢passed (sym h ∙ e))
-      go (taken g h l x) = (g, l, x)
+    then_tried f = sym (try_more a b l s ∙ tried_passed s e ∙ f)
 
 -- what the judge says of the marks it says of the proposal
 pub judged_proposal : {log proposal : List ℕ} (marks : List ℕ) {r : Acceptance} → ((t : ℕ) → marked marks t ≡ proposes proposal t) → Judges (WillDo transactions log (marked marks)) r → Accepts log proposal r
@@ -66,7 +48,7 @@ judged_proposal {log} marks each (no n) = accepts_no (λ w. n (subst (WillDo tra
 
 -- what the planner lays into the proposal is what it answers
 pub redone : {log work proposal : List ℕ} (marks : List ℕ) {work' proposal' : List ℕ} {count : ℕ} → work_refusal work ≡ Passed → length_refusal proposal ≡ Passed → log_refusal log ≡ Passed
-    → Planned log marks → work' ≡ zeros (length work) → Laid marks table proposal' count → RedoCall log work proposal (RedoAnswer.Proposed count) work' proposal'
-unfolding says_members leaves_proposal
+    → Planned log marks → work' ≡ zeros (length work) → Laid marks table proposal' count → RedoCall log work proposal (Ok count) work' proposal'
+unfolding leaves_proposal
 redone {work} marks a b c p z l =
-    answered (rising table (marked marks)) (sym (both_passed a (both_passed b c))) (redo p.ends) (ap RedoAnswer.Proposed l.counted) (rw (z, work_length work a, l.laid) refl)
+    answered (rising table (marked marks)) (sym (both_passed a (both_passed b c))) (redo p.ends) (ap Ok l.counted) (rw (z, work_length work a, l.laid) refl)

@@ -1,4 +1,5 @@
 -- The members of a proposal, named one after another: what is known of the first i.
+use Rattle.std.specs.Prelude.{None, Some}
 use mathlib.Core.Path.{◌≡◌, refl, sym, ap, ◌∙◌}
 use mathlib.Core.Bool.{true, false, false≢true}
 use mathlib.Core.Logic.{◌⊎◌, inl, inr, ⊎_elim}
@@ -15,8 +16,7 @@ use Rattle.verdict.specs.Next.{up_to_zero}
 use Rattle.verdict.specs.Inner.Following.{Split}
 use Rattle.verdict.proofs.Loosely.{distinct_behind, distinct_more}
 use Rattle.verdict.proofs.HandedIn.{Front, front_none, front_more, goes}
-use Rattle.plan.specs.declared.members.Members.{Members}
-use Rattle.plan.specs.Inner.Marks.{table, marked, MembersOf, good, bad}
+use Rattle.plan.specs.Inner.Marks.{table, marked, MembersOf}
 use Rattle.plan.proofs.MarkLaws.{zeros_unmarked, marked_set_same, marked_set_other}
 
 -- ONE MEMBER MORE, AT THE END
@@ -34,9 +34,8 @@ pub record Named (who proposal : List ℕ) (i : ℕ) (marks : List ℕ) : Type 0
 
 module _ (who proposal : List ℕ) (i : ℕ) (marks : List ℕ) (n : Named who proposal i marks) where
   -- these are all
-  pub named_all : Split proposal i → {m : Members} → m.good ≡ true → m.count ≡ i → m.marks ≡ marks → MembersOf who proposal m
-  named_all s a b c =
-      good a (rw b s) (rw s.front n.apart) (rw s.front n.those) (rw c n.size) (λ t. rw (c, s.front) (n.each t))
+  pub named_all : Split proposal i → MembersOf who proposal (Some (record { count = i; marks = marks }))
+  named_all s = (s, rw s.front n.apart, rw s.front n.those, n.size, λ t. rw s.front (n.each t))
 
   module _ (h : i < length proposal) (z : get_or proposal i 0 ≡ 0 → ⊥) where
     abbrev t : ℕ
@@ -69,8 +68,8 @@ module _ (who proposal : List ℕ) (i : ℕ) (marks : List ℕ) (n : Named who p
     whole = n.front.front ∙ ap (λ (l : List ℕ). take i proposal ++ up_to_zero l) (drop-cons proposal i 0 h) ∙ ap (λ (l : List ℕ). take i proposal ++ l) (goes (get_or proposal i 0) (drop (suc i) proposal) z)
 
     -- one that may not
-    pub named_bad : (marked who t and fails (marked marks t)) ≡ false → {m : Members} → m.good ≡ false → MembersOf who proposal m
-    named_bad f a = bad a (go (decide (marked who t)))
+    pub named_bad : (marked who t and fails (marked marks t)) ≡ false → MembersOf who proposal None
+    named_bad f = go (decide (marked who t))
       where
         rest : List ℕ
         rest = up_to_zero (drop (suc i) proposal)

@@ -1,4 +1,6 @@
 -- What the version verdict's answer tells of a log with some transactions taken back.
+use Rattle.std.specs.Prelude.{Result, Ok, Err}
+use Rattle.std.specs.Result.{result_unwrap_or}
 use mathlib.Core.Path.{◌≡◌, refl, ap, subst, ◌∙◌}
 use mathlib.Core.Bool.{Bool, true, false}
 use mathlib.Core.Logic.{◌⊎◌, inl, inr}
@@ -12,7 +14,7 @@ use Rattle.verdict.specs.Log.{steps, aborted, src}
 use Rattle.verdict.specs.Clean.{fault_step, after_own_write, faulty_read, is_clean, fault_at, cleanness}
 use Rattle.verdict.specs.Outcome.{Outcome, said, shows_order, shows_cycle}
 use Rattle.verdict.specs.Version.{Version, version, version_unclean}
-use Rattle.verdict.specs.Call.{VersionCall, turned_away, answered, said_judged}
+use Rattle.verdict.specs.Call.{VersionCall, turned_away, answered}
 use Rattle.verdict.specs.Refusal.{log_refusal}
 use Rattle.verdict.specs.Answers.{Passed}
 use Rattle.verdict.specs.declared.answers.Fault.{Fault}
@@ -20,8 +22,7 @@ use Rattle.verdict.specs.declared.answers.Fault.TheVariants.{Own, Aborted, Unfin
 use Rattle.verdict.specs.declared.answers.Cleanness.TheVariants as cleanness_is
 use Rattle.verdict.specs.declared.answers.Answer.{Answer}
 use Rattle.verdict.specs.declared.answers.Answer.TheVariants.{Order, Cycle, None, Unclean}
-use Rattle.verdict.specs.declared.answers.WitnessAnswer.{WitnessAnswer}
-use Rattle.verdict.specs.declared.answers.WitnessAnswer.TheVariants as answer
+use Rattle.verdict.specs.declared.answers.Refusal.{Refusal}
 use Rattle.words.proofs.Truth.{decide, not_fails→, provided_false, lowest_is}
 use Rattle.verdict.proofs.WellFormed.{refused≢passed}
 use Rattle.verdict.proofs.Cleanly.{cleanness_clean, clean_cleanness, clean≢unclean}
@@ -33,22 +34,24 @@ use Rattle.plan.specs.Fine.{Fine}
 use Rattle.plan.specs.Inner.Trials.{Shown}
 
 -- A CALL OF `version`
-module _ {log work witness work' witness' : List ℕ} {r : WitnessAnswer} (call : VersionCall log work witness r work' witness') where
-  pub shown_judged : {back : ℕ → Bool} {log₀ : List ℕ} {a : Answer} → log ≡ taken_back back log₀ → r ≡ answer.Judged a → Shown log₀ back a
-  unfolding said_judged
-  shown_judged {a} e f =
-      let j = call_judged (log_refusal log) (subst (λ (s : WitnessAnswer). VersionCall log work witness s work' witness') f call) in
-      let s : answer.Judged a ≡ answer.Judged (said j.0) = j.3 in
-      record { outcome = j.0; right = subst (λ (l : List ℕ). Version transactions l j.0) e j.2; says = cc }
+module _ {log work witness work' witness' : List ℕ} where
+  pub shown_judged : {back : ℕ → Bool} {log₀ : List ℕ} {a : Answer} → log ≡ taken_back back log₀ → VersionCall log work witness (Ok a) work' witness' → Shown log₀ back a
+  shown_judged e call =
+      let j = call_judged (log_refusal log) call in
+      record { outcome = j.0; right = subst (λ (l : List ℕ). Version transactions l j.0) e j.2; says = j.3 }
 
   -- with buffers of the right length it is not turned away
-  pub never_refused : {n p : ℕ} → log_refusal log ≡ Passed → length work ≡ work_bytes → length witness ≡ witness_buffer → r ≡ answer.Refused n p → ⊥
-  unfolding said_judged
-  never_refused well p q f = go call
-    where
-      go : VersionCall log work witness r work' witness' → ⊥
-      go (turned_away m k g x y) = refused≢passed (g ∙ both_passed (work_passed work p) (both_passed (witness_passed witness q) well))
-      go (answered o g v x y) = let z : ◌≡◌ {A = ℕ} 0 1 = cc in omega arith
+  pub never_refused : {f : Refusal} → log_refusal log ≡ Passed → length work ≡ work_bytes → length witness ≡ witness_buffer
+      → VersionCall log work witness (Err f) work' witness' → ⊥
+  never_refused well p q (turned_away m k g x y) = refused≢passed (g ∙ both_passed (work_passed work p) (both_passed (witness_passed witness q) well))
+  never_refused well p q (answered o g v x y) = let z : ◌≡◌ {A = ℕ} 0 1 = cc in omega arith
+
+-- what it shows of a log that is not turned away
+pub shown_after : {log work witness work' witness' log₀ : List ℕ} {back : ℕ → Bool} → log_refusal log ≡ Passed → log ≡ taken_back back log₀
+    → length work ≡ work_bytes → length witness ≡ witness_buffer → (r : Result Answer Refusal) → VersionCall log work witness r work' witness'
+    → Shown log₀ back (result_unwrap_or r None)
+shown_after well e p q (Ok a) call = shown_judged e call
+shown_after well e p q (Err f) call = absurd (never_refused well p q call)
 
 -- THE READ AT FAULT
 step_at : (log : List ℕ) (k : ℕ) → fault_step (fault_at log k) ≡ k

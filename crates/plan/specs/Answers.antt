@@ -1,5 +1,3 @@
 -- The types of the answers, as src/answers.rt declares them.
 pub use Rattle.plan.specs.declared.answers.Acceptance.{Acceptance}
 pub use Rattle.plan.specs.declared.answers.Acceptance.TheVariants.{Yes, No}
-pub use Rattle.plan.specs.declared.answers.AcceptsAnswer.{AcceptsAnswer}
-pub use Rattle.plan.specs.declared.answers.RedoAnswer.{RedoAnswer}

@@ -10,8 +10,8 @@ ghost use Rattle.plan.specs.Fine.{Fine};
 ghost use Rattle.plan.specs.Inner.Marks.{table, marked};
 ghost use Rattle.plan.specs.Inner.Trials.{step_numbers, Shown, Tells};
 
-use crate::marks::{index, is_marked};
-use verdict::answers::{Answer, WitnessAnswer};
+use crate::marks::is_marked;
+use verdict::answers::Answer;
 use verdict::{Log, Step, Transaction, version};
 
 // The kind of a step of t when those marked are taken back.
@@ -22,7 +22,7 @@ fn kind_of(kind: u16, t: u16, back: &[u8; Transaction::TABLE]) -> u16
     if kind != Step::COMMIT {
         return kind;
     }
-    if !is_marked(back, index(t)) {
+    if !is_marked(back, usize::from(t)) {
         return kind;
     }
     Step::ABORT
@@ -53,10 +53,8 @@ fn put_steps(log: &[u16], back: &[u8; Transaction::TABLE], changed: &mut [u16; 4
     ensures { (length changed.new ≡ step_numbers)
         × (take (length log.now) changed.new ≡ taken_back (marked back.now) log.now) }
 {
-    let mut i = 0;
-    while i < log.len() / 4 {
+    for i in 0..log.len() / 4 {
         put_step(log, back, i, changed);
-        i += 1;
     }
 }
 
@@ -70,11 +68,7 @@ pub(crate) fn version_after(log: &[u16], back: &[u8; Transaction::TABLE]) -> Ans
     put_steps(log, back, &mut changed);
     let mut work = [0u8; Log::WORK];
     let mut witness = [0u16; Transaction::WITNESS];
-    let answer = version(&changed[..n], &mut work, &mut witness);
-    match answer {
-        WitnessAnswer::Refused(_, _) => Answer::None,
-        WitnessAnswer::Judged(judged) => judged,
-    }
+    version(&changed[..n], &mut work, &mut witness).unwrap_or(Answer::None)
 }
 
 // Whether the log with those marked taken back is fine.
@@ -82,8 +76,7 @@ pub(crate) fn is_fine(log: &[u16], back: &[u8; Transaction::TABLE]) -> bool
     requires { (length back.now ≡ table) × (log_refusal log.now ≡ Passed) }
     ensures { Tells (Fine transactions (taken_back (marked back.now) log.now)) result }
 {
-    let answer = version_after(log, back);
-    match answer {
+    match version_after(log, back) {
         Answer::Order(_) => true,
         Answer::Cycle(_) => false,
         Answer::None => false,

@@ -4,7 +4,6 @@ ghost use Rattle.verdict.specs.Refusal.{log_refusal};
 ghost use Rattle.verdict.specs.Answers.{Passed};
 ghost use Rattle.plan.specs.Inner.Marks.{Until, Committed};
 
-use crate::marks::index;
 use verdict::{Step, Transaction};
 
 // Marks the transaction of step i, if it commits there.
@@ -15,7 +14,7 @@ fn mark_commit(log: &[u16], i: usize, marks: &mut [u8; Transaction::TABLE])
     if log[4 * i] != Step::COMMIT {
         return;
     }
-    let t = index(log[4 * i + 1]);
+    let t = usize::from(log[4 * i + 1]);
     marks[t] = 1;
 }
 
@@ -25,10 +24,8 @@ pub(crate) fn who_committed(log: &[u16]) -> [u8; Transaction::TABLE]
     ensures { Committed log.now result }
 {
     let mut marks = [0u8; Transaction::TABLE];
-    let mut i = 0;
-    while i < log.len() / 4 {
+    for i in 0..log.len() / 4 {
         mark_commit(log, i, &mut marks);
-        i += 1;
     }
     marks
 }

@@ -11,7 +11,7 @@ ghost use Rattle.plan.specs.Inner.Marks.{table, marked};
 ghost use Rattle.plan.specs.Inner.Trials.{Tried};
 
 use crate::changed::version_after;
-use crate::marks::{index, is_marked};
+use crate::marks::is_marked;
 use verdict::answers::Answer;
 use verdict::{Transaction, fault_step};
 
@@ -20,7 +20,7 @@ fn source_or(log: &[u16], back: &[u8; Transaction::TABLE], t: usize, k: usize) -
     requires { (length back.now ≡ table) × (4 * k + 4 ≤ length log.now) }
     ensures { result ≡ (provided marked back.now (src log.now k) then src log.now k else t) }
 {
-    let s = index(log[4 * k + 3]);
+    let s = usize::from(log[4 * k + 3]);
     if is_marked(back, s) {
         return s;
     }
@@ -35,8 +35,7 @@ pub(crate) fn try_back(log: &[u16], back: [u8; Transaction::TABLE], t: usize) ->
 {
     let mut others = back;
     others[t] = 0;
-    let answer = version_after(log, &others);
-    match answer {
+    match version_after(log, &others) {
         Answer::Order(_) => 0,
         Answer::Cycle(_) => t,
         Answer::None => t,

@@ -10,10 +10,10 @@ ghost use Rattle.plan.specs.AcceptsCall.{AcceptsCall};
 ghost use Rattle.plan.specs.Inner.Marks.{table, marked};
 ghost use Rattle.plan.specs.Inner.Trials.{Tells, Judges};
 
-use crate::answers::{Acceptance, AcceptsAnswer};
+use crate::answers::Acceptance;
 use crate::changed::is_fine;
 use crate::refusal::{admit, admit_members};
-use verdict::answers::Checked;
+use verdict::answers::Refusal;
 use verdict::{Transaction, clear};
 
 // Whether t is a member that can be spared: turned back alone, it leaves a fine log.
@@ -37,12 +37,10 @@ fn all_needed(log: &[u16], marks: [u8; Transaction::TABLE]) -> bool
     requires { (log_refusal log.now ≡ Passed) × (length marks ≡ table) }
     ensures { Tells ((t : ℕ) → marked marks t ≡ true → Needs transactions log.now (marked marks) t) result }
 {
-    let mut t = 0;
-    while t < Transaction::TABLE {
+    for t in 0..Transaction::TABLE {
         if can_spare(log, marks, t) {
             return false;
         }
-        t += 1;
     }
     true
 }
@@ -62,21 +60,11 @@ fn will_do(log: &[u16], marks: [u8; Transaction::TABLE]) -> Acceptance
 }
 
 // Whether a proposal will do.
-pub fn accepts(log: &[u16], proposal: &[u16], work: &mut [u8]) -> AcceptsAnswer
+pub fn accepts(log: &[u16], proposal: &[u16], work: &mut [u8]) -> Result<Acceptance, Refusal>
     ensures { AcceptsCall log.now proposal.now work.old result work.new }
 {
-    let admitted = admit(log, work.len(), proposal.len());
-    if let Checked::Refused(number, place) = admitted {
-        return AcceptsAnswer::Refused(number, place);
-    }
-    let proposed = admit_members(log, proposal);
-    let checked = proposed.checked;
-    let marks = proposed.marks;
-    match checked {
-        Checked::Refused(number, place) => AcceptsAnswer::Refused(number, place),
-        Checked::Passed => {
-            clear(work);
-            AcceptsAnswer::Judged(will_do(log, marks))
-        }
-    }
+    admit(log, work.len(), proposal.len())?;
+    let marks = admit_members(log, proposal)?;
+    clear(work);
+    Ok(will_do(log, marks))
 }

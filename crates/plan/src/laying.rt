@@ -5,16 +5,13 @@ ghost use Rattle.plan.specs.Proposal.{proposal_entries};
 ghost use Rattle.plan.specs.Inner.Marks.{table, marked};
 ghost use Rattle.plan.specs.Inner.Laying.{Laid};
 
-use crate::marks::index;
 use verdict::Transaction;
 
 // All numbers of the proposal become 0.
 pub(crate) fn clear_proposal(proposal: &mut [u16])
     ensures { proposal.new ≡ zeros (length proposal.old) }
 {
-    for i in 0..proposal.len() {
-        proposal[i] = 0;
-    }
+    proposal.fill(0);
 }
 
 // Lays t behind those that are laid already, if it is marked, and answers how many are laid then.
@@ -22,7 +19,7 @@ fn lay_member(proposal: &mut [u16], marks: &[u8; Transaction::TABLE], count: usi
     requires { (length marks.now ≡ table) × (marked marks.now 0 ≡ false) × (t < table) × Laid marks.now t proposal.old count }
     ensures { Laid marks.now (t + 1) proposal.new result }
 {
-    if marks[index(t)] == 0 {
+    if marks[usize::from(t)] == 0 {
         return count;
     }
     proposal[count] = t;
@@ -35,10 +32,8 @@ pub(crate) fn lay_members(proposal: &mut [u16], marks: &[u8; Transaction::TABLE]
     ensures { Laid marks.now table proposal.new result }
 {
     let mut count = 0;
-    let mut t: u16 = 0;
-    while t <= Transaction::LIMIT {
+    for t in 0..=Transaction::LIMIT {
         count = lay_member(proposal, marks, count, t);
-        t += 1;
     }
     count
 }

@@ -12,6 +12,6 @@ mod members;
 mod planner;
 mod refusal;
 
-pub use answers::{Acceptance, AcceptsAnswer, RedoAnswer};
+pub use answers::Acceptance;
 pub use judging::accepts;
 pub use planner::redo;

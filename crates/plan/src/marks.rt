@@ -14,10 +14,3 @@ pub(crate) fn is_marked(marks: &[u8; Transaction::TABLE], t: usize) -> bool
     }
     marks[t] != 0
 }
-
-// A number of a log as an index.
-pub(crate) fn index(x: u16) -> usize
-    ensures { result ≡ x }
-{
-    x as usize
-}

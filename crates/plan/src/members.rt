@@ -3,13 +3,12 @@ ghost use Rattle.std.specs.Prelude.{◌≡◌, false, length};
 ghost use Rattle.words.specs.Tests.{◌and◌, fails};
 ghost use Rattle.plan.specs.Inner.Marks.{table, marked, MembersOf};
 
-use crate::marks::{index, is_marked};
+use crate::marks::is_marked;
 use verdict::Transaction;
 
-// What is found of the members of a proposal: whether they are different and committed; if so, how many they are, and the marks of them.
+// The members of a proposal, which are different and committed: how many they are, and the marks of them.
 #[derive(Clone, Copy)]
 pub(crate) struct Members {
-    pub good: bool,
     pub count: usize,
     pub marks: [u8; Transaction::TABLE],
 }
@@ -25,35 +24,24 @@ fn may_name(who: &[u8; Transaction::TABLE], named: &[u8; Transaction::TABLE], t:
     !is_marked(named, t)
 }
 
-// Looks at the members, by the marks of those that committed.
-pub(crate) fn look_at(proposal: &[u16], who: &[u8; Transaction::TABLE]) -> Members
+// The members, by the marks of those that committed, if they are different and committed.
+pub(crate) fn look_at(proposal: &[u16], who: &[u8; Transaction::TABLE]) -> Option<Members>
     requires { (length who.now ≡ table) × (marked who.now 0 ≡ false) }
     ensures { MembersOf who.now proposal.now result }
 {
     let mut marks = [0u8; Transaction::TABLE];
-    let mut i = 0;
-    while i < proposal.len() {
-        let t = index(proposal[i]);
+    for i in 0..proposal.len() {
+        let t = usize::from(proposal[i]);
         if t == 0 {
-            return Members {
-                good: true,
-                count: i,
-                marks,
-            };
+            return Some(Members { count: i, marks });
         }
         if !may_name(who, &marks, t) {
-            return Members {
-                good: false,
-                count: i,
-                marks,
-            };
+            return None;
         }
         marks[t] = 1;
-        i += 1;
     }
-    Members {
-        good: true,
-        count: i,
+    Some(Members {
+        count: proposal.len(),
         marks,
-    }
+    })
 }

@@ -7,14 +7,13 @@ ghost use Rattle.plan.specs.RedoCall.{RedoCall};
 ghost use Rattle.plan.specs.Inner.Marks.{table};
 ghost use Rattle.plan.specs.Inner.Planning.{can_try, Planned};
 
-use crate::answers::RedoAnswer;
 use crate::changed::is_fine;
 use crate::committed::who_committed;
 use crate::giving_back::try_back;
 use crate::laying::{clear_proposal, lay_members};
 use crate::marks::is_marked;
 use crate::refusal::admit;
-use verdict::answers::Checked;
+use verdict::answers::Refusal;
 use verdict::{Transaction, clear};
 
 // Whether t can be tried: it is taken back, and does not wait for one that is.
@@ -33,14 +32,12 @@ fn lowest_to_try(back: &[u8; Transaction::TABLE], waits: &[usize; Transaction::T
     requires { (length back.now ≡ table) × (length waits.now ≡ table) }
     ensures { result ≡ lowest table (can_try back.now waits.now) }
 {
-    let mut t = 0;
-    while t < Transaction::TABLE {
+    for t in 0..Transaction::TABLE {
         if can_try(back, waits, t) {
             return t;
         }
-        t += 1;
     }
-    t
+    Transaction::TABLE
 }
 
 // The mark of one that was tried: it goes where nobody has to be waited for.
@@ -82,18 +79,13 @@ fn to_redo(log: &[u16]) -> [u8; Transaction::TABLE]
     plan(log)
 }
 
-// Which commits to redo: the members are put into the proposal.
-pub fn redo(log: &[u16], work: &mut [u8], proposal: &mut [u16]) -> RedoAnswer
+// Which commits to redo: the members are put into the proposal, and how many they are is answered.
+pub fn redo(log: &[u16], work: &mut [u8], proposal: &mut [u16]) -> Result<usize, Refusal>
     ensures { RedoCall log.now work.old proposal.old result work.new proposal.new }
 {
-    let admitted = admit(log, work.len(), proposal.len());
-    match admitted {
-        Checked::Refused(number, place) => RedoAnswer::Refused(number, place),
-        Checked::Passed => {
-            let marks = to_redo(log);
-            clear(work);
-            clear_proposal(proposal);
-            RedoAnswer::Proposed(lay_members(proposal, &marks))
-        }
-    }
+    admit(log, work.len(), proposal.len())?;
+    let marks = to_redo(log);
+    clear(work);
+    clear_proposal(proposal);
+    Ok(lay_members(proposal, &marks))
 }

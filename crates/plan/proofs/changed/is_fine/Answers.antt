@@ -4,13 +4,13 @@ use Rattle.plan.proofs.Trying.{fine_told, not_fine_told, cycle≢order, none≢o
 use Rattle.plan.proofs.changed.is_fine.Goals as goal
 
 pub returns-in-Order : goal.returns-in-Order
-returns-in-Order c = so (fine_told c.version_after-answer.ensures c.in-Order.is)
+returns-in-Order c = so (fine_told c.version_after.ensures c.in-Order.is)
 
 pub returns-in-Cycle : goal.returns-in-Cycle
-returns-in-Cycle c = not_so (not_fine_told c.version_after-answer.ensures (λ n. cycle≢order c.in-Cycle.is))
+returns-in-Cycle c = not_so (not_fine_told c.version_after.ensures (λ n. cycle≢order c.in-Cycle.is))
 
 pub returns-in-None : goal.returns-in-None
-returns-in-None c = not_so (not_fine_told c.version_after-answer.ensures (λ n. none≢order c.in-None.is))
+returns-in-None c = not_so (not_fine_told c.version_after.ensures (λ n. none≢order c.in-None.is))
 
 pub returns-in-Unclean : goal.returns-in-Unclean
-returns-in-Unclean c = not_so (not_fine_told c.version_after-answer.ensures (λ n. unclean≢order c.in-Unclean.is))
+returns-in-Unclean c = not_so (not_fine_told c.version_after.ensures (λ n. unclean≢order c.in-Unclean.is))

@@ -12,7 +12,7 @@ abbrev After-is_marked : Type 0
 After-is_marked = Lts.After-is_marked tie.the-claims Reads.Pre Reads.Post
 
 is_marked : (c : After-is_marked) → c.is_marked.result ≡ marked c.args.back.now c.args.t
-is_marked c = c.is_marked.ensures ∙ ap (marked _) c.index.ensures
+is_marked c = c.is_marked.ensures ∙ ap (marked _) c.from.ensures
 
 pub returns-then-kind-ne-COMMIT : goal.returns-then-kind-ne-COMMIT
 returns-then-kind-ne-COMMIT c = sym (provided_false _ _ (and_no_left _ (→isnt c.if-kind-ne-COMMIT.true)))

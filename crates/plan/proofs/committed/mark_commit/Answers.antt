@@ -12,15 +12,15 @@ use Rattle.plan.proofs.committed.mark_commit.Reads
 use Rattle.plan.proofs.committed.mark_commit.Goals as goal
 
 -- places on the way, by the names that the toolchain gives them
-abbrev After-index-t : Type 0
-After-index-t = Lts.After-index tie.the-claims Reads.Pre Reads.Post
+abbrev After-from-t : Type 0
+After-from-t = Lts.After-from tie.the-claims Reads.Pre Reads.Post
 
 -- the transaction of the step
-is_tx : (c : After-index-t) → c.index-t.result ≡ tx c.args.log.now c.args.i
+is_tx : (c : After-from-t) → c.from-t.result ≡ tx c.args.log.now c.args.i
 unfolding tx
-is_tx c = c.index-t.ensures
+is_tx c = c.from-t.ensures
 
-within : (c : After-index-t) → c.index-t.result < table
+within : (c : After-from-t) → c.from-t.result < table
 unfolding steps
 within c =
     let inside : c.args.i < steps c.args.log.now = omega (arith, c.requires.1) in
@@ -35,4 +35,4 @@ bounds-marks-t c = within c.before.before
 
 pub returns : goal.returns
 unfolding kind
-returns c = commit_noted _ _ _ c.requires.2 c.if-log-i-ne-COMMIT.false c.index-t.result (is_tx c.before.before) (within c.before.before)
+returns c = commit_noted _ _ _ c.requires.2 c.if-log-i-ne-COMMIT.false c.from-t.result (is_tx c.before.before) (within c.before.before)

@@ -13,9 +13,9 @@ abbrev After-is_marked : Type 0
 After-is_marked = Lts.After-is_marked tie.the-claims Reads.Pre Reads.Post
 
 -- the source, as an index
-source : (c : After-is_marked) → c.index-s.result ≡ src c.args.log.now c.args.k
+source : (c : After-is_marked) → c.from-s.result ≡ src c.args.log.now c.args.k
 unfolding src
-source c = c.index-s.ensures
+source c = c.from-s.ensures
 
 pub returns-then-is_marked : goal.returns-then-is_marked
 returns-then-is_marked c = source c.before.before ∙ sym (provided_true _ _ (ap (marked _) (sym (source c.before.before)) ∙ sym c.is_marked.ensures ∙ c.if-is_marked.true))

@@ -21,20 +21,20 @@ inside : (c : Start) → c.args.t < length c.args.back
 inside c = omega (arith, c.requires.1, c.requires.5)
 
 pub source_or-requires : goal.source_or-requires
-source_or-requires c = let k : c.fault_step.result < steps c.args.log.now = rw c.fault_step.ensures (fault_inside c.args.log.now c.requires.0 c.args.back c.args.t (inside c.before.before.before.before.before.before.before) c.requires.3 c.version_after-answer.ensures c.in-Unclean.is) in
+source_or-requires c = let k : c.fault_step.result < steps c.args.log.now = rw c.fault_step.ensures (fault_inside c.args.log.now c.requires.0 c.args.back c.args.t (inside c.before.before.before.before.before.before.before) c.requires.3 c.version_after.ensures c.in-Unclean.is) in
     (c.requires.1, omega (arith, whole_steps c.args.log.now c.requires.0))
 
 pub returns-in-Order : goal.returns-in-Order
-returns-in-Order c = tried_fine c.args.log.now c.requires.0 c.args.back c.args.t (inside c.before.before.before.before.before) c.requires.3 c.version_after-answer.ensures c.in-Order.is
+returns-in-Order c = tried_fine c.args.log.now c.requires.0 c.args.back c.args.t (inside c.before.before.before.before.before) c.requires.3 c.version_after.ensures c.in-Order.is
 
 pub returns-in-Cycle : goal.returns-in-Cycle
-returns-in-Cycle c = tried_cycle c.args.log.now c.requires.0 c.args.back c.args.t (inside c.before.before.before.before.before) c.requires.3 c.version_after-answer.ensures c.in-Cycle.is
+returns-in-Cycle c = tried_cycle c.args.log.now c.requires.0 c.args.back c.args.t (inside c.before.before.before.before.before) c.requires.3 c.version_after.ensures c.in-Cycle.is
 
 pub returns-in-None : goal.returns-in-None
-returns-in-None c = absurd (tried_none c.args.log.now c.requires.0 c.args.back c.args.t (inside c.before.before.before.before.before) c.requires.3 c.version_after-answer.ensures c.in-None.is)
+returns-in-None c = absurd (tried_none c.args.log.now c.requires.0 c.args.back c.args.t (inside c.before.before.before.before.before) c.requires.3 c.version_after.ensures c.in-None.is)
 
 pub returns-in-Unclean : goal.returns-in-Unclean
 returns-in-Unclean c = let log = c.args.log.now in
     let back = c.args.back in
-    tried_unclean log c.requires.0 back c.args.t (inside c.before.before.before.before.before.before.before.before) c.requires.3 c.version_after-answer.ensures c.in-Unclean.is c.requires.4
+    tried_unclean log c.requires.0 back c.args.t (inside c.before.before.before.before.before.before.before.before) c.requires.3 c.version_after.ensures c.in-Unclean.is c.requires.4
     (c.source_or.ensures ∙ ap (λ (k : ℕ). provided marked back (src log k) then src log k else c.args.t) c.fault_step.ensures)

@@ -1,5 +1,5 @@
 -- `admit` meets its contract.
-use mathlib.Core.Path.{sym, ◌∙◌}
+use Rattle.std.proofs.Common.{sym, ◌∙◌}
 use Rattle.words.proofs.Truth.{→fails, →not_fails, →is, →isnt}
 use Rattle.verdict.proofs.Refused.{first_yes, first_no}
 use Rattle.plan.proofs.refusal.admit.Goals as goal
