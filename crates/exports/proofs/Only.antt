@@ -16,7 +16,7 @@ use Rattle.live.proofs.ByCalls.{live_call_one}
 use Rattle.plan.specs.AcceptsCall.{AcceptsCall}
 use Rattle.plan.specs.RedoCall.{RedoCall}
 use Rattle.plan.proofs.ByCalls.{accepts_call_one, redo_call_one}
-use Rattle.exports.specs.Packed.{Numbers, clean_numbers, snapshot_numbers, witness_numbers, text_numbers, live_numbers, accepts_numbers, redo_numbers, packed, Packs, packs}
+use Rattle.exports.specs.Packed.{Numbers, clean_numbers, snapshot_numbers, witness_numbers, count_numbers, live_numbers, accepts_numbers, packed, Packs, packs}
 
 -- two calls that allow one answer, and leave one thing, have one number
 pub packs_one : {A Left : Type 0} {call call' : A → Type 0} {numbers : A → Numbers} {r s : ℕ} → ((a b : A) → call a → call' b → (a ≡ b) × Left)
@@ -48,14 +48,14 @@ module _ (log : List ℕ) {work witness : List ℕ} {r s : ℕ} {v w x y : List 
   packed_next_one given = packs_one (λ a b c d. let o = next_call_one log given c d in (o.0, (o.1, o.2)))
 
 module _ {text buffer : List ℕ} {r s : ℕ} {v w : List ℕ} where
-  pub packed_read_one : Packs (λ a. ReadCall text buffer a v) text_numbers r → Packs (λ a. ReadCall text buffer a w) text_numbers s → (r ≡ s) × (v ≡ w)
+  pub packed_read_one : Packs (λ a. ReadCall text buffer a v) count_numbers r → Packs (λ a. ReadCall text buffer a w) count_numbers s → (r ≡ s) × (v ≡ w)
   packed_read_one = packs_one (λ a b c d. read_call_one c d)
 
-  pub packed_report_one : Packs (λ a. ReportCall text buffer a v) text_numbers r → Packs (λ a. ReportCall text buffer a w) text_numbers s → (r ≡ s) × (v ≡ w)
+  pub packed_report_one : Packs (λ a. ReportCall text buffer a v) count_numbers r → Packs (λ a. ReportCall text buffer a w) count_numbers s → (r ≡ s) × (v ≡ w)
   packed_report_one = packs_one (λ a b c d. report_call_one c d)
 
 module _ (log : List ℕ) {out : List ℕ} {r s : ℕ} {v w : List ℕ} where
-  pub packed_write_one : Packs (λ a. WriteCall log out a v) text_numbers r → Packs (λ a. WriteCall log out a w) text_numbers s → (r ≡ s) × (v ≡ w)
+  pub packed_write_one : Packs (λ a. WriteCall log out a v) count_numbers r → Packs (λ a. WriteCall log out a w) count_numbers s → (r ≡ s) × (v ≡ w)
   packed_write_one = packs_one (λ a b c d. write_call_one log c d)
 
 -- the live judge, on buffers that were reached by calls
@@ -67,6 +67,6 @@ packed_live_one k = packs_one (λ a b c d. live_call_one k c d)
 pub packed_accepts_one : (log proposal : List ℕ) {work : List ℕ} {r s : ℕ} {v w : List ℕ} → Packs (λ a. AcceptsCall log proposal work a v) accepts_numbers r → Packs (λ a. AcceptsCall log proposal work a w) accepts_numbers s → (r ≡ s) × (v ≡ w)
 packed_accepts_one log proposal = packs_one (λ a b c d. accepts_call_one log proposal c d)
 
-pub packed_redo_one : (log : List ℕ) {work proposal : List ℕ} {r s : ℕ} {v w x y : List ℕ} → Packs (λ a. RedoCall log work proposal a v x) redo_numbers r → Packs (λ a. RedoCall log work proposal a w y) redo_numbers s
+pub packed_redo_one : (log : List ℕ) {work proposal : List ℕ} {r s : ℕ} {v w x y : List ℕ} → Packs (λ a. RedoCall log work proposal a v x) count_numbers r → Packs (λ a. RedoCall log work proposal a w y) count_numbers s
     → (r ≡ s) × ((v ≡ w) × (x ≡ y))
 packed_redo_one log = packs_one (λ a b c d. let o = redo_call_one log c d in (o.0, (o.1, o.2)))

@@ -10,19 +10,16 @@ ghost use Rattle.text.specs.WriteCall.{WriteCall};
 ghost use Rattle.live.specs.LiveCall.{buffers, LiveCall};
 ghost use Rattle.plan.specs.AcceptsCall.{AcceptsCall};
 ghost use Rattle.plan.specs.RedoCall.{RedoCall};
-ghost use Rattle.exports.specs.Packed.{clean_numbers, snapshot_numbers, witness_numbers, text_numbers, live_numbers, accepts_numbers, redo_numbers, Packs};
+ghost use Rattle.exports.specs.Packed.{clean_numbers, snapshot_numbers, witness_numbers, count_numbers, live_numbers, accepts_numbers, Packs};
 
-use crate::pack::{
-    pack_accepts, pack_clean, pack_live, pack_redo, pack_snapshot, pack_text, pack_witness,
-};
+use crate::pack::{pack_accepts, pack_clean, pack_count, pack_live, pack_snapshot, pack_witness};
 
 // The clean verdict.
 #[unsafe(no_mangle)]
 pub extern "C" fn krupovesh_clean(log: &[u16], work: &mut [u8]) -> u64
     ensures { Packs (λ a. CleanCall log.now work.old a work.new) clean_numbers result }
 {
-    let answer = verdict::clean(log, work);
-    pack_clean(answer)
+    pack_clean(verdict::clean(log, work))
 }
 
 // The snapshot verdict.
@@ -30,8 +27,7 @@ pub extern "C" fn krupovesh_clean(log: &[u16], work: &mut [u8]) -> u64
 pub extern "C" fn krupovesh_snapshot(log: &[u16], work: &mut [u8]) -> u64
     ensures { Packs (λ a. SnapshotCall log.now work.old a work.new) snapshot_numbers result }
 {
-    let answer = verdict::snapshot(log, work);
-    pack_snapshot(answer)
+    pack_snapshot(verdict::snapshot(log, work))
 }
 
 // The conflict verdict. The order or the cycle is put into the witness.
@@ -39,8 +35,7 @@ pub extern "C" fn krupovesh_snapshot(log: &[u16], work: &mut [u8]) -> u64
 pub extern "C" fn krupovesh_conflict(log: &[u16], work: &mut [u8], witness: &mut [u16]) -> u64
     ensures { Packs (λ a. ConflictCall log.now work.old witness.old a work.new witness.new) witness_numbers result }
 {
-    let answer = verdict::conflict(log, work, witness);
-    pack_witness(answer)
+    pack_witness(verdict::conflict(log, work, witness))
 }
 
 // The version verdict. The order or the cycle is put into the witness.
@@ -48,8 +43,7 @@ pub extern "C" fn krupovesh_conflict(log: &[u16], work: &mut [u8], witness: &mut
 pub extern "C" fn krupovesh_version(log: &[u16], work: &mut [u8], witness: &mut [u16]) -> u64
     ensures { Packs (λ a. VersionCall log.now work.old witness.old a work.new witness.new) witness_numbers result }
 {
-    let answer = verdict::version(log, work, witness);
-    pack_witness(answer)
+    pack_witness(verdict::version(log, work, witness))
 }
 
 // The exact verdict. The order is put into the witness.
@@ -57,8 +51,7 @@ pub extern "C" fn krupovesh_version(log: &[u16], work: &mut [u8], witness: &mut 
 pub extern "C" fn krupovesh_exact(log: &[u16], work: &mut [u8], witness: &mut [u16]) -> u64
     ensures { Packs (λ a. ExactCall log.now work.old witness.old a work.new witness.new) witness_numbers result }
 {
-    let answer = verdict::exact(log, work, witness);
-    pack_witness(answer)
+    pack_witness(verdict::exact(log, work, witness))
 }
 
 // "Next": the explaining order after the one handed in is put into the witness.
@@ -71,35 +64,31 @@ pub extern "C" fn krupovesh_next(
 ) -> u64
     ensures { Packs (λ a. NextCall log.now order.now work.old witness.old a work.new witness.new) witness_numbers result }
 {
-    let answer = verdict::next(log, order, work, witness);
-    pack_witness(answer)
+    pack_witness(verdict::next(log, order, work, witness))
 }
 
 // Reads a text's steps into the step buffer.
 #[unsafe(no_mangle)]
 pub extern "C" fn krupovesh_read(text: &[u8], steps: &mut [u16]) -> u64
-    ensures { Packs (λ a. ReadCall text.now steps.old a steps.new) text_numbers result }
+    ensures { Packs (λ a. ReadCall text.now steps.old a steps.new) count_numbers result }
 {
-    let answer = text::read(text, steps);
-    pack_text(answer)
+    pack_count(text::read(text, steps))
 }
 
 // The text of a log, put first in its buffer.
 #[unsafe(no_mangle)]
 pub extern "C" fn krupovesh_write(log: &[u16], out: &mut [u8]) -> u64
-    ensures { Packs (λ a. WriteCall log.now out.old a out.new) text_numbers result }
+    ensures { Packs (λ a. WriteCall log.now out.old a out.new) count_numbers result }
 {
-    let answer = text::write(log, out);
-    pack_text(answer)
+    pack_count(text::write(log, out))
 }
 
 // The report of a text, put first in its buffer.
 #[unsafe(no_mangle)]
 pub extern "C" fn krupovesh_report(text: &[u8], out: &mut [u8]) -> u64
-    ensures { Packs (λ a. ReportCall text.now out.old a out.new) text_numbers result }
+    ensures { Packs (λ a. ReportCall text.now out.old a out.new) count_numbers result }
 {
-    let answer = text::report(text, out);
-    pack_text(answer)
+    pack_count(text::report(text, out))
 }
 
 // The live judge. A part of a log is taken, and each of its steps gets an answer; the first five buffers hold the state.
@@ -116,8 +105,7 @@ pub extern "C" fn krupovesh_live(
     ensures { Packs (λ a. LiveCall (buffers state.old opened.old rows.old marks.old edges.old) part.now answers.old a
         (buffers state.new opened.new rows.new marks.new edges.new) answers.new) live_numbers result }
 {
-    let answer = live::live(state, opened, rows, marks, edges, part, answers);
-    pack_live(answer)
+    pack_live(live::live(state, opened, rows, marks, edges, part, answers))
 }
 
 // Whether a proposal of commits to take back will do.
@@ -125,15 +113,13 @@ pub extern "C" fn krupovesh_live(
 pub extern "C" fn krupovesh_accepts(log: &[u16], proposal: &[u16], work: &mut [u8]) -> u64
     ensures { Packs (λ a. AcceptsCall log.now proposal.now work.old a work.new) accepts_numbers result }
 {
-    let answer = plan::accepts(log, proposal, work);
-    pack_accepts(answer)
+    pack_accepts(plan::accepts(log, proposal, work))
 }
 
 // Which commits to redo: they are put into the proposal.
 #[unsafe(no_mangle)]
 pub extern "C" fn krupovesh_redo(log: &[u16], work: &mut [u8], proposal: &mut [u16]) -> u64
-    ensures { Packs (λ a. RedoCall log.now work.old proposal.old a work.new proposal.new) redo_numbers result }
+    ensures { Packs (λ a. RedoCall log.now work.old proposal.old a work.new proposal.new) count_numbers result }
 {
-    let answer = plan::redo(log, work, proposal);
-    pack_redo(answer)
+    pack_count(plan::redo(log, work, proposal))
 }

@@ -1,14 +1,10 @@
 // The one number in which a C call answers.
 ghost use Rattle.std.specs.Prelude.{◌≡◌};
-ghost use Rattle.exports.specs.Packed.{◌with◌and◌then◌, fault_numbers, clean_numbers, read_numbers, snapshot_numbers, witness_numbers, text_numbers, live_numbers, accepts_numbers, redo_numbers, packed};
+ghost use Rattle.exports.specs.Packed.{◌with◌and◌then◌, fault_numbers, clean_numbers, read_numbers, snapshot_numbers, witness_numbers, count_numbers, live_numbers, accepts_numbers, packed};
 ghost use Rattle.exports.specs.Inner.Small.{Small};
 
-use live::LiveAnswer;
-use plan::{Acceptance, AcceptsAnswer, RedoAnswer};
-use text::TextAnswer;
-use verdict::answers::{
-    Answer, CleanAnswer, Cleanness, Fault, Snapshot, SnapshotAnswer, WitnessAnswer, Writer,
-};
+use plan::Acceptance;
+use verdict::answers::{Answer, Cleanness, Fault, Refusal, Snapshot, Writer};
 
 // The kinds of answer.
 const REFUSED: u64 = 0;
@@ -56,13 +52,13 @@ fn pack_fault(fault: Fault) -> u64
 }
 
 // The number of what the clean verdict answers.
-pub(crate) fn pack_clean(answer: CleanAnswer) -> u64
+pub(crate) fn pack_clean(answer: Result<Cleanness, Refusal>) -> u64
     requires { Small (packed (clean_numbers answer)) }
     ensures { result ≡ packed (clean_numbers answer) }
 {
     match answer {
-        CleanAnswer::Refused(number, place) => pack(REFUSED, number as u64, place as u64, 0),
-        CleanAnswer::Judged(clean) => match clean {
+        Err(Refusal(number, place)) => pack(REFUSED, u64::from(number), place as u64, 0),
+        Ok(clean) => match clean {
             Cleanness::Yes => pack(YES, 0, 0, 0),
             Cleanness::Unclean(fault) => pack_fault(fault),
         },
@@ -76,34 +72,34 @@ fn pack_read(k: usize, writer: Writer) -> u64
 {
     match writer {
         Writer::Store => pack(READ_AT, k as u64, 0, 0),
-        Writer::Committed(t, s) => pack(READ_AT, k as u64, t as u64, s as u64),
-        Writer::Reader(t) => pack(READ_AT, k as u64, t as u64, 0),
+        Writer::Committed(t, s) => pack(READ_AT, k as u64, u64::from(t), s as u64),
+        Writer::Reader(t) => pack(READ_AT, k as u64, u64::from(t), 0),
     }
 }
 
 // The number of what the snapshot verdict answers.
-pub(crate) fn pack_snapshot(answer: SnapshotAnswer) -> u64
+pub(crate) fn pack_snapshot(answer: Result<Snapshot, Refusal>) -> u64
     requires { Small (packed (snapshot_numbers answer)) }
     ensures { result ≡ packed (snapshot_numbers answer) }
 {
     match answer {
-        SnapshotAnswer::Refused(number, place) => pack(REFUSED, number as u64, place as u64, 0),
-        SnapshotAnswer::Judged(snapshot) => match snapshot {
+        Err(Refusal(number, place)) => pack(REFUSED, u64::from(number), place as u64, 0),
+        Ok(snapshot) => match snapshot {
             Snapshot::Yes => pack(YES, 0, 0, 0),
             Snapshot::Read(k, writer) => pack_read(k, writer),
-            Snapshot::Write(k, t) => pack(WRITE_AT, k as u64, t as u64, 0),
+            Snapshot::Write(k, t) => pack(WRITE_AT, k as u64, u64::from(t), 0),
         },
     }
 }
 
 // The number of what a verdict with a witness answers, and "next".
-pub(crate) fn pack_witness(answer: WitnessAnswer) -> u64
+pub(crate) fn pack_witness(answer: Result<Answer, Refusal>) -> u64
     requires { Small (packed (witness_numbers answer)) }
     ensures { result ≡ packed (witness_numbers answer) }
 {
     match answer {
-        WitnessAnswer::Refused(number, place) => pack(REFUSED, number as u64, place as u64, 0),
-        WitnessAnswer::Judged(judged) => match judged {
+        Err(Refusal(number, place)) => pack(REFUSED, u64::from(number), place as u64, 0),
+        Ok(judged) => match judged {
             Answer::Order(n) => pack(ORDER, n as u64, 0, 0),
             Answer::Cycle(n) => pack(CYCLE, n as u64, 0, 0),
             Answer::None => pack(NONE, 0, 0, 0),
@@ -112,49 +108,38 @@ pub(crate) fn pack_witness(answer: WitnessAnswer) -> u64
     }
 }
 
-// The number of what a call over a text answers.
-pub(crate) fn pack_text(answer: TextAnswer) -> u64
-    requires { Small (packed (text_numbers answer)) }
-    ensures { result ≡ packed (text_numbers answer) }
+// The number of a call that answers how many: steps that were read, bytes that were put, or members of a proposal.
+pub(crate) fn pack_count(answer: Result<usize, Refusal>) -> u64
+    requires { Small (packed (count_numbers answer)) }
+    ensures { result ≡ packed (count_numbers answer) }
 {
     match answer {
-        TextAnswer::Refused(number, place) => pack(REFUSED, number as u64, place as u64, 0),
-        TextAnswer::Accepted(n) => pack(ACCEPTED, n as u64, 0, 0),
+        Err(Refusal(number, place)) => pack(REFUSED, u64::from(number), place as u64, 0),
+        Ok(n) => pack(ACCEPTED, n as u64, 0, 0),
     }
 }
 
 // The number of the live judge's answer to a call.
-pub(crate) fn pack_live(answer: LiveAnswer) -> u64
+pub(crate) fn pack_live(answer: Result<(), Refusal>) -> u64
     requires { Small (packed (live_numbers answer)) }
     ensures { result ≡ packed (live_numbers answer) }
 {
     match answer {
-        LiveAnswer::Refused(number) => pack(REFUSED, number as u64, 0, 0),
-        LiveAnswer::Accepted => pack(ACCEPTED, 0, 0, 0),
+        Err(Refusal(number, place)) => pack(REFUSED, u64::from(number), place as u64, 0),
+        Ok(()) => pack(ACCEPTED, 0, 0, 0),
     }
 }
 
 // The number of what the judge of a proposal answers.
-pub(crate) fn pack_accepts(answer: AcceptsAnswer) -> u64
+pub(crate) fn pack_accepts(answer: Result<Acceptance, Refusal>) -> u64
     requires { Small (packed (accepts_numbers answer)) }
     ensures { result ≡ packed (accepts_numbers answer) }
 {
     match answer {
-        AcceptsAnswer::Refused(number, place) => pack(REFUSED, number as u64, place as u64, 0),
-        AcceptsAnswer::Judged(judged) => match judged {
+        Err(Refusal(number, place)) => pack(REFUSED, u64::from(number), place as u64, 0),
+        Ok(judged) => match judged {
             Acceptance::Yes => pack(YES, 0, 0, 0),
             Acceptance::No => pack(NO, 0, 0, 0),
         },
-    }
-}
-
-// The number of what the planner answers.
-pub(crate) fn pack_redo(answer: RedoAnswer) -> u64
-    requires { Small (packed (redo_numbers answer)) }
-    ensures { result ≡ packed (redo_numbers answer) }
-{
-    match answer {
-        RedoAnswer::Refused(number, place) => pack(REFUSED, number as u64, place as u64, 0),
-        RedoAnswer::Proposed(n) => pack(ACCEPTED, n as u64, 0, 0),
     }
 }

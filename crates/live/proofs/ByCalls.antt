@@ -1,6 +1,8 @@
 -- From fresh buffers, by any calls on any parts, the answers to all steps together are those of the definition.
+use Rattle.std.specs.Prelude.{Result, Ok}
+use Rattle.verdict.specs.declared.answers.Refusal.{Refusal}
 use mathlib.Core.Path.{◌≡◌, refl, sym, ap, ap₂, subst, ◌∙◌}
-use mathlib.Core.Bool.{Bool, true, false, false≢true}
+use mathlib.Core.Bool.{Bool, false}
 use mathlib.Core.Logic.{⊎_elim}
 use mathlib.Core.List.{List, [], ◌∷◌, ◌++◌, map, map-append}
 use Prim.Native.Nat.{ℕ, zero, suc, ◌+◌, ◌-◌, ◌*◌, ◌%◌, ◌≤◌}
@@ -11,10 +13,9 @@ use Rattle.words.specs.Lists.{zeros}
 use Rattle.words.proofs.Truth.{to_false, not_both, and_no_left, or→, →not_upto, provided_false}
 use Rattle.graph.specs.Matrix.{in_row}
 use Rattle.graph.proofs.RowLaws.{no_rows}
-use Rattle.verdict.specs.Answers.{Refused}
 use Rattle.verdict.proofs.WellFormed.{refused≢passed}
 use Rattle.verdict.specs.Log.{steps, begun, committed}
-use Rattle.live.specs.Answers.{Said, answer_number, LiveAnswer, Accepted}
+use Rattle.live.specs.Answers.{Said, answer_number}
 use Rattle.live.specs.SoFar.{numbers, is_open, passed}
 use Rattle.live.specs.Breach.{breached}
 use Rattle.live.specs.Says.{State, fresh, says, after, all_says, after_all}
@@ -129,14 +130,6 @@ module _ (most : ℕ) (whole : List ℕ → Bool) where
   cut_after j (k ∷ t ∷ x ∷ []) q e = absurd (omega arith)
 
 -- BY CALLS
-is_accepted : LiveAnswer → Bool
-is_accepted Accepted = true
-is_accepted (LiveAnswer.Refused n) = false
-
-not_refused : {n : ℕ} → Accepted ≡ LiveAnswer.Refused n → ⊥
-unfolding is_accepted
-not_refused e = false≢true (sym (ap is_accepted e))
-
 record Stands (run said : List ℕ) (b : Buffers) : Type 0 where
   whole : length run % 4 ≡ 0
   telling : said ≡ answers_to run
@@ -145,9 +138,9 @@ record Stands (run said : List ℕ) (b : Buffers) : Type 0 where
 stands : {run said : List ℕ} {b : Buffers} → Calls run said b → Stands run said b
 unfolding answers_to
 stands no_call = record { whole = refl; telling = unfold all_says in refl; keeping = unfold after_all in fresh_kept }
-stands (one_refused {n = n} c (turned_away number place e r same kept)) = rw same (stands c)
-stands (one_refused c (answered e r j)) = absurd (not_refused (sym r))
-stands (one_accepted c (turned_away number place e r same kept)) = absurd (not_refused r)
+stands (one_refused c (turned_away number place e r same kept)) = rw same (stands c)
+stands (one_refused c (answered e r j)) = let z : ◌≡◌ {A = ℕ} 0 1 = cc in absurd (omega arith)
+stands (one_accepted c (turned_away number place e r same kept)) = let z : ◌≡◌ {A = ℕ} 0 1 = cc in absurd (omega arith)
 stands (one_accepted {run} {said} {part} {answers} {answers'} {lent} {left} c (answered e r j)) =
     let i = stands c in
     let w : length part ≡ 4 * length answers = (fitting lent part answers (sym e)).whole in
@@ -168,15 +161,12 @@ unfolding answers_to
 room_given_back {run} c = subst (λ (l : List ℕ). answers_apart l ≡ roomy_answers_to (steps_apart run l)) (sym (live_answers c)) (roomy run (full numbers places))
 
 -- a call more gets the answers to its own steps
-pub call_answers : {run said part answers answers' : List ℕ} {lent left : Buffers} → Calls run said lent → LiveCall lent part answers Accepted left answers' → said ++ answers' ≡ answers_to (run ++ part)
+pub call_answers : {run said part answers answers' : List ℕ} {lent left : Buffers} → Calls run said lent → LiveCall lent part answers (Ok tt) left answers' → said ++ answers' ≡ answers_to (run ++ part)
 call_answers c l = live_answers (one_accepted c l)
 
 -- and so, on buffers that were reached, any two results are equal: what the call is answered, and the answers to its steps
-pub live_call_one : {run said part answers x y : List ℕ} {lent left left' : Buffers} {r s : LiveAnswer} → Calls run said lent → LiveCall lent part answers r left x → LiveCall lent part answers s left' y → (r ≡ s) × (x ≡ y)
-live_call_one c (turned_away n p e f g h) (turned_away m q e' f' g' h') = let z : n ≡ m = same_number (e ∙ sym e') in (f ∙ ap LiveAnswer.Refused z ∙ sym f', h ∙ sym h')
-  where
-    same_number : {n m p q : ℕ} → Refused n p ≡ Refused m q → n ≡ m
-    same_number e = cc
+pub live_call_one : {run said part answers x y : List ℕ} {lent left left' : Buffers} {r s : Result (Unit {0}) Refusal} → Calls run said lent → LiveCall lent part answers r left x → LiveCall lent part answers s left' y → (r ≡ s) × (x ≡ y)
+live_call_one c (turned_away n p e f g h) (turned_away m q e' f' g' h') = (f ∙ e ∙ sym e' ∙ sym f', h ∙ sym h')
 live_call_one c (turned_away n p e f g h) (answered e' f' j) = absurd (refused≢passed (e ∙ sym e'))
 live_call_one c (answered e f j) (turned_away m q e' f' g' h') = absurd (refused≢passed (e' ∙ sym e))
 live_call_one c (answered e f j) (answered e' f' j') = let k = (stands c).keeping in (f ∙ sym f', j.answered _ k ∙ sym (j'.answered _ k))

@@ -1,4 +1,5 @@
 -- A call: the number that turns it away, and what it leaves where none does.
+use Rattle.std.specs.Prelude.{Ok}
 use mathlib.Core.Path.{◌≡◌, refl, sym, subst, ◌∙◌}
 use mathlib.Core.Bool.{Bool, true, false}
 use mathlib.Core.Logic.{◌⊎◌, inl, inr}
@@ -13,7 +14,6 @@ use Rattle.verdict.specs.Refusal.{◌at◌when◌}
 use Rattle.verdict.proofs.Bounds.{Within, within_when, within_else}
 use Rattle.verdict.proofs.Refused.{when_yes, when_no, first_yes, first_no}
 use Rattle.verdict.proofs.WellFormed.{else_try→, when→}
-use Rattle.live.specs.Answers.{Accepted}
 use Rattle.live.specs.Says.{State, going, over}
 use Rattle.live.specs.Kept.{places}
 use Rattle.live.specs.LiveCall.{Buffers, buffers, call_refusal, LiveCall, answered}
@@ -21,7 +21,7 @@ use Rattle.live.specs.declared.step.Live.{Live}
 use Rattle.live.specs.Inner.Table.{Table, Sized}
 use Rattle.live.specs.Inner.Held.{Tidy, Holds, holds_steps, holds_answer}
 use Rattle.live.specs.Inner.Took.{table}
-use Rattle.live.specs.Inner.Parts.{TakesPart, CallNumber}
+use Rattle.live.specs.Inner.Parts.{TakesPart}
 
 -- THE NUMBER
 right : {m n : ℕ} → m ≡ n → fails (m is n) ≡ false
@@ -31,51 +31,45 @@ wrong : {m n : ℕ} → (m ≡ n → ⊥) → fails (m is n) ≡ true
 wrong d = →fails (→isnt d)
 
 module _ (b : Buffers) (part answers : List ℕ) where
-  pub turns_away : (n : ℕ) → (n ≡ 0 → ⊥) → call_refusal b part answers ≡ Refused n 0 → CallNumber b part answers n
-  turns_away n d e = record { none = λ z. absurd (d z); some_number = λ _. e }
-
-  pub number_one : (length part % 4 ≡ 0 → ⊥) → CallNumber b part answers 1
+  pub number_one : (length part % 4 ≡ 0 → ⊥) → call_refusal b part answers ≡ Refused 1 0
   unfolding call_refusal
-  number_one d = turns_away 1 (λ z. omega arith) (first_yes 1 0 _ (wrong d))
+  number_one d = first_yes 1 0 _ (wrong d)
 
   module _ (p : length part % 4 ≡ 0) where
-    twelve : call_refusal b part answers ≡ Refused 12 0 → CallNumber b part answers 12
-    twelve e = turns_away 12 (λ z. omega arith) e
-
-    pub wrong_state : (length b.state ≡ 3 → ⊥) → CallNumber b part answers 12
+    pub wrong_state : (length b.state ≡ 3 → ⊥) → call_refusal b part answers ≡ Refused 12 0
     unfolding call_refusal
-    wrong_state d = twelve (first_no 1 0 _ (right p) ∙ first_yes 12 0 _ (wrong d))
+    wrong_state d = first_no 1 0 _ (right p) ∙ first_yes 12 0 _ (wrong d)
 
     module _ (s : length b.state ≡ 3) where
-      pub wrong_opened : (length b.opened ≡ 256 → ⊥) → CallNumber b part answers 12
+      pub wrong_opened : (length b.opened ≡ 256 → ⊥) → call_refusal b part answers ≡ Refused 12 0
       unfolding call_refusal
-      wrong_opened d = twelve (first_no 1 0 _ (right p) ∙ first_no 12 0 _ (right s) ∙ first_yes 12 0 _ (wrong d))
+      wrong_opened d = first_no 1 0 _ (right p) ∙ first_no 12 0 _ (right s) ∙ first_yes 12 0 _ (wrong d)
 
       module _ (o : length b.opened ≡ 256) where
-        pub wrong_rows : (length b.rows ≡ 8643 → ⊥) → CallNumber b part answers 12
+        pub wrong_rows : (length b.rows ≡ 8643 → ⊥) → call_refusal b part answers ≡ Refused 12 0
         unfolding call_refusal
-        wrong_rows d = twelve (first_no 1 0 _ (right p) ∙ first_no 12 0 _ (right s) ∙ first_no 12 0 _ (right o) ∙ first_yes 12 0 _ (wrong d))
+        wrong_rows d = first_no 1 0 _ (right p) ∙ first_no 12 0 _ (right s) ∙ first_no 12 0 _ (right o) ∙ first_yes 12 0 _ (wrong d)
 
         module _ (r : length b.rows ≡ 8643) where
-          pub wrong_marks : (length b.marks ≡ 256 → ⊥) → CallNumber b part answers 12
+          pub wrong_marks : (length b.marks ≡ 256 → ⊥) → call_refusal b part answers ≡ Refused 12 0
           unfolding call_refusal
-          wrong_marks d = twelve (first_no 1 0 _ (right p) ∙ first_no 12 0 _ (right s) ∙ first_no 12 0 _ (right o) ∙ first_no 12 0 _ (right r) ∙ first_yes 12 0 _ (wrong d))
+          wrong_marks d = first_no 1 0 _ (right p) ∙ first_no 12 0 _ (right s) ∙ first_no 12 0 _ (right o) ∙ first_no 12 0 _ (right r) ∙ first_yes 12 0 _ (wrong d)
 
           module _ (m : length b.marks ≡ 256) where
-            pub wrong_edges : (length b.edges ≡ 256 → ⊥) → CallNumber b part answers 12
+            pub wrong_edges : (length b.edges ≡ 256 → ⊥) → call_refusal b part answers ≡ Refused 12 0
             unfolding call_refusal
-            wrong_edges d = twelve (first_no 1 0 _ (right p) ∙ first_no 12 0 _ (right s) ∙ first_no 12 0 _ (right o) ∙ first_no 12 0 _ (right r) ∙ first_no 12 0 _ (right m) ∙ first_yes 12 0 _ (wrong d))
+            wrong_edges d = first_no 1 0 _ (right p) ∙ first_no 12 0 _ (right s) ∙ first_no 12 0 _ (right o) ∙ first_no 12 0 _ (right r) ∙ first_no 12 0 _ (right m) ∙ first_yes 12 0 _ (wrong d)
 
             module _ (g : length b.edges ≡ 256) where
               rest : call_refusal b part answers ≡ (12 at 0 when fails (length answers is length part / 4))
               unfolding call_refusal
               rest = first_no 1 0 _ (right p) ∙ first_no 12 0 _ (right s) ∙ first_no 12 0 _ (right o) ∙ first_no 12 0 _ (right r) ∙ first_no 12 0 _ (right m) ∙ first_no 12 0 _ (right g)
 
-              pub wrong_answers : (length answers ≡ length part / 4 → ⊥) → CallNumber b part answers 12
-              wrong_answers d = twelve (rest ∙ when_yes 12 0 (wrong d))
+              pub wrong_answers : (length answers ≡ length part / 4 → ⊥) → call_refusal b part answers ≡ Refused 12 0
+              wrong_answers d = rest ∙ when_yes 12 0 (wrong d)
 
-              pub no_number : length answers ≡ length part / 4 → CallNumber b part answers 0
-              no_number a = record { none = λ _. rest ∙ when_no 12 0 (right a); some_number = λ d. absurd (d refl) }
+              pub no_number : length answers ≡ length part / 4 → call_refusal b part answers ≡ Passed
+              no_number a = rest ∙ when_no 12 0 (right a)
 
   -- the numbers are small
   pub call_within : Within (call_refusal b part answers)
@@ -134,7 +128,7 @@ put_back (a ∷ b ∷ c ∷ d ∷ l) standing top count e = absurd (omega arith)
 pub accepted : {state opened rows marks edges part answers opened' rows' marks' edges' answers' : List ℕ} {used : ℕ} {r : Live}
     → call_refusal (buffers state opened rows marks edges) part answers ≡ Passed → length state ≡ 3 → used ≡ (provided get_or state 2 0 upto places then get_or state 2 0 else places)
     → TakesPart (record { standing = get_or state 0 0; top = get_or state 1 0; count = used }) (table opened rows marks edges) part answers r (table opened' rows' marks' edges') answers'
-    → LiveCall (buffers state opened rows marks edges) part answers Accepted (buffers (set (set (set state 0 r.standing) 1 r.top) 2 r.count) opened' rows' marks' edges') answers'
+    → LiveCall (buffers state opened rows marks edges) part answers (Ok tt) (buffers (set (set (set state 0 r.standing) 1 r.top) 2 r.count) opened' rows' marks' edges') answers'
 accepted {state} {opened} {rows} {marks} {edges} {opened' = opened'} {rows'} {marks'} {edges'} {r = r} e size u t =
     answered (sym e) refl
     (record {

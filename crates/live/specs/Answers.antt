@@ -2,8 +2,6 @@
 use Rattle.std.specs.Prelude.{ℕ, Bool, true, false}
 pub use Rattle.live.specs.declared.answers.Said.{Said}
 pub use Rattle.live.specs.declared.answers.Said.TheVariants.{Taken, Yes, Breach, CycleClosed}
-pub use Rattle.live.specs.declared.LiveAnswer.{LiveAnswer}
-pub use Rattle.live.specs.declared.LiveAnswer.TheVariants.{Accepted}
 
 -- the number of a bad step, or one of four more
 unfoldable pub answer_number : Said → ℕ

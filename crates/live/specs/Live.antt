@@ -1,7 +1,8 @@
 -- The live judge over any calls: however a run of steps is cut into parts, each step gets its answer.
-use Rattle.std.specs.Prelude.{List, [], ◌++◌, map, ℕ}
+use Rattle.std.specs.Prelude.{List, [], ◌++◌, map, ℕ, Ok, Err}
 use Rattle.words.specs.Lists.{zeros}
-use Rattle.live.specs.Answers.{answer_number, LiveAnswer, Accepted}
+use Rattle.verdict.specs.declared.answers.Refusal.{Refusal}
+use Rattle.live.specs.Answers.{answer_number}
 use Rattle.live.specs.SoFar.{numbers}
 use Rattle.live.specs.Says.{fresh, all_says}
 use Rattle.live.specs.Kept.{places, full}
@@ -15,8 +16,8 @@ all_zero = record { state = zeros state_numbers; opened = zeros opened_entries; 
 -- calls one after another, the first with fresh buffers: the steps of the parts that were accepted, their answers, and the buffers after all
 pub data Calls : (run said : List ℕ) → Buffers → Type 0 where
   no_call : Calls [] [] all_zero
-  one_accepted : {run said part answers answers' : List ℕ} {lent left : Buffers} → Calls run said lent → LiveCall lent part answers Accepted left answers' → Calls (run ++ part) (said ++ answers') left
-  one_refused : {run said part answers answers' : List ℕ} {n : ℕ} {lent left : Buffers} → Calls run said lent → LiveCall lent part answers (LiveAnswer.Refused n) left answers' → Calls run said left
+  one_accepted : {run said part answers answers' : List ℕ} {lent left : Buffers} → Calls run said lent → LiveCall lent part answers (Ok tt) left answers' → Calls (run ++ part) (said ++ answers') left
+  one_refused : {run said part answers answers' : List ℕ} {refusal : Refusal} {lent left : Buffers} → Calls run said lent → LiveCall lent part answers (Err refusal) left answers' → Calls run said left
 
 -- the answers to a run of steps
 unfoldable pub answers_to : List ℕ → List ℕ

@@ -1,10 +1,10 @@
 -- What a call of the live judge answers, and what it leaves in the lent buffers.
-use Rattle.std.specs.Prelude.{◌≡◌, List, map, ℕ, ◌/◌, ◌%◌, length, get_or}
+use Rattle.std.specs.Prelude.{◌≡◌, List, map, ℕ, ◌/◌, ◌%◌, length, get_or, Result, Ok}
 use Rattle.words.specs.Tests.{◌is◌, fails}
-use Rattle.verdict.specs.Answers.{Checked}
-use Rattle.verdict.specs.Answers.{Passed, Refused}
+use Rattle.verdict.specs.Answers.{Checked, Passed, Refused}
+use Rattle.verdict.specs.declared.answers.Refusal.{Refusal}
 use Rattle.verdict.specs.Refusal.{◌at◌when◌, ◌else_try◌}
-use Rattle.live.specs.Answers.{answer_number, LiveAnswer, Accepted}
+use Rattle.live.specs.Answers.{answer_number}
 use Rattle.live.specs.SoFar.{numbers}
 use Rattle.live.specs.Says.{State, all_says, after_all}
 use Rattle.live.specs.Kept.{places, full}
@@ -46,6 +46,6 @@ pub record Judges (lent : Buffers) (part : List ℕ) (left : Buffers) (answers :
   pub kept : (j : State) → Keeps lent j → Keeps left (after_all numbers (full numbers places) j part)
 
 -- A call: turned away, and nothing is changed; or answered
-pub data LiveCall (lent : Buffers) (part answers : List ℕ) (r : LiveAnswer) (left : Buffers) (answers' : List ℕ) : Type 0 where
-  turned_away : (number place : ℕ) → Refused number place ≡ call_refusal lent part answers → r ≡ LiveAnswer.Refused number → left ≡ lent → answers' ≡ answers → LiveCall lent part answers r left answers'
-  answered : Passed ≡ call_refusal lent part answers → r ≡ Accepted → Judges lent part left answers' → LiveCall lent part answers r left answers'
+pub data LiveCall (lent : Buffers) (part answers : List ℕ) (r : Result (Unit {0}) Refusal) (left : Buffers) (answers' : List ℕ) : Type 0 where
+  turned_away : (number place : ℕ) → Refused number place ≡ call_refusal lent part answers → r ≡ Refused number place → left ≡ lent → answers' ≡ answers → LiveCall lent part answers r left answers'
+  answered : Passed ≡ call_refusal lent part answers → r ≡ Ok tt → Judges lent part left answers' → LiveCall lent part answers r left answers'

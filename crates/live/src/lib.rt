@@ -15,17 +15,10 @@ mod table;
 ghost use Rattle.std.specs.Prelude.{◌≡◌};
 ghost use Rattle.words.specs.Tests.{◌upto◌, provided◌then◌else◌};
 ghost use Rattle.live.specs.Kept.{places};
-ghost use Rattle.live.specs.LiveCall.{buffers, LiveCall};
-ghost use Rattle.live.specs.Inner.Parts.{CallNumber};
+ghost use Rattle.live.specs.LiveCall.{buffers, call_refusal, LiveCall};
 
 pub use answers::{BREACH, CLOSED, Said, TAKEN, YES};
-
-// What a call is answered: the number that turns it away, or that each step of its part has its answer.
-#[derive(Clone, Copy)]
-pub enum LiveAnswer {
-    Refused(u16),
-    Accepted,
-}
+use verdict::answers::Refusal;
 
 // How many entries the lent buffers have that hold the state.
 pub const STATE: usize = 3;
@@ -38,8 +31,8 @@ pub const MARKS: usize = 256;
 
 pub const EDGES: usize = 256;
 
-// 1 or 12, where one of them applies to a call; else 0.
-fn call_number(
+// 1 or 12, where one of them applies to a call.
+fn admit(
     state: &[u16],
     opened: &[u16],
     rows: &[u16],
@@ -47,31 +40,31 @@ fn call_number(
     edges: &[u64],
     part: &[u16],
     answers: &[u16],
-) -> u16
-    ensures { CallNumber (buffers state.now opened.now rows.now marks.now edges.now) part.now answers.now result }
+) -> Result<(), Refusal>
+    ensures { result ≡ call_refusal (buffers state.now opened.now rows.now marks.now edges.now) part.now answers.now }
 {
     if part.len() % 4 != 0 {
-        return 1;
+        return Err(Refusal(1, 0));
     }
     if state.len() != STATE {
-        return 12;
+        return Err(Refusal(12, 0));
     }
     if opened.len() != OPENED {
-        return 12;
+        return Err(Refusal(12, 0));
     }
     if rows.len() != ROWS {
-        return 12;
+        return Err(Refusal(12, 0));
     }
     if marks.len() != MARKS {
-        return 12;
+        return Err(Refusal(12, 0));
     }
     if edges.len() != EDGES {
-        return 12;
+        return Err(Refusal(12, 0));
     }
     if answers.len() != part.len() / 4 {
-        return 12;
+        return Err(Refusal(12, 0));
     }
-    0
+    Ok(())
 }
 
 // How many places there are to look at, as the state says it; never more than there are.
@@ -93,14 +86,11 @@ pub fn live(
     edges: &mut [u64],
     part: &[u16],
     answers: &mut [u16],
-) -> LiveAnswer
+) -> Result<(), Refusal>
     ensures { LiveCall (buffers state.old opened.old rows.old marks.old edges.old) part.now answers.old result
         (buffers state.new opened.new rows.new marks.new edges.new) answers.new }
 {
-    let number = call_number(state, opened, rows, marks, edges, part, answers);
-    if number != 0 {
-        return LiveAnswer::Refused(number);
-    }
+    admit(state, opened, rows, marks, edges, part, answers)?;
     let before = step::Live {
         standing: state[0],
         top: state[1],
@@ -110,5 +100,5 @@ pub fn live(
     state[0] = after.standing;
     state[1] = after.top;
     state[2] = after.count as u16;
-    LiveAnswer::Accepted
+    Ok(())
 }

@@ -4,7 +4,7 @@ use Rattle.exports.proofs.Values.{fits, accepts_short}
 use Rattle.exports.proofs.krupovesh_accepts.Goals as goal
 
 pub pack_accepts-requires : goal.pack_accepts-requires
-pack_accepts-requires c = fits (accepts_short _ _ _ c.accepts-answer.ensures)
+pack_accepts-requires c = fits (accepts_short _ _ _ c.accepts.ensures)
 
 pub returns : goal.returns
-returns c = packs _ c.accepts-answer.ensures c.pack_accepts.ensures
+returns c = packs _ c.accepts.ensures c.pack_accepts.ensures

@@ -4,7 +4,7 @@ use Rattle.exports.proofs.Values.{fits, clean_short}
 use Rattle.exports.proofs.krupovesh_clean.Goals as goal
 
 pub pack_clean-requires : goal.pack_clean-requires
-pack_clean-requires c = fits (clean_short _ _ c.clean-answer.ensures)
+pack_clean-requires c = fits (clean_short _ _ c.clean.ensures)
 
 pub returns : goal.returns
-returns c = packs _ c.clean-answer.ensures c.pack_clean.ensures
+returns c = packs _ c.clean.ensures c.pack_clean.ensures

@@ -4,7 +4,7 @@ use Rattle.exports.proofs.Values.{fits, conflict_short}
 use Rattle.exports.proofs.krupovesh_conflict.Goals as goal
 
 pub pack_witness-requires : goal.pack_witness-requires
-pack_witness-requires c = fits (conflict_short _ _ _ c.conflict-answer.ensures)
+pack_witness-requires c = fits (conflict_short _ _ _ c.conflict.ensures)
 
 pub returns : goal.returns
-returns c = packs _ c.conflict-answer.ensures c.pack_witness.ensures
+returns c = packs _ c.conflict.ensures c.pack_witness.ensures

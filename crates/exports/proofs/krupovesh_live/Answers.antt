@@ -4,7 +4,7 @@ use Rattle.exports.proofs.Values.{fits, live_short}
 use Rattle.exports.proofs.krupovesh_live.Goals as goal
 
 pub pack_live-requires : goal.pack_live-requires
-pack_live-requires c = fits (live_short c.live-answer.ensures)
+pack_live-requires c = fits (live_short c.live.ensures)
 
 pub returns : goal.returns
-returns c = packs _ c.live-answer.ensures c.pack_live.ensures
+returns c = packs _ c.live.ensures c.pack_live.ensures

@@ -4,7 +4,7 @@ use Rattle.exports.proofs.Values.{fits, next_short}
 use Rattle.exports.proofs.krupovesh_next.Goals as goal
 
 pub pack_witness-requires : goal.pack_witness-requires
-pack_witness-requires c = fits (next_short _ _ _ _ c.next-answer.ensures)
+pack_witness-requires c = fits (next_short _ _ _ _ c.next.ensures)
 
 pub returns : goal.returns
-returns c = packs _ c.next-answer.ensures c.pack_witness.ensures
+returns c = packs _ c.next.ensures c.pack_witness.ensures

@@ -3,8 +3,8 @@ use Rattle.exports.specs.Packed.{packs}
 use Rattle.exports.proofs.Values.{fits, read_short}
 use Rattle.exports.proofs.krupovesh_read.Goals as goal
 
-pub pack_text-requires : goal.pack_text-requires
-pack_text-requires c = fits (read_short c.read-answer.ensures)
+pub pack_count-requires : goal.pack_count-requires
+pack_count-requires c = fits (read_short c.read.ensures)
 
 pub returns : goal.returns
-returns c = packs _ c.read-answer.ensures c.pack_text.ensures
+returns c = packs _ c.read.ensures c.pack_count.ensures

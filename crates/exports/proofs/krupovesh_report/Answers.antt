@@ -3,8 +3,8 @@ use Rattle.exports.specs.Packed.{packs}
 use Rattle.exports.proofs.Values.{fits, report_short}
 use Rattle.exports.proofs.krupovesh_report.Goals as goal
 
-pub pack_text-requires : goal.pack_text-requires
-pack_text-requires c = fits (report_short _ c.report-answer.ensures)
+pub pack_count-requires : goal.pack_count-requires
+pack_count-requires c = fits (report_short _ c.report.ensures)
 
 pub returns : goal.returns
-returns c = packs _ c.report-answer.ensures c.pack_text.ensures
+returns c = packs _ c.report.ensures c.pack_count.ensures

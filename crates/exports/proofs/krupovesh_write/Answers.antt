@@ -3,8 +3,8 @@ use Rattle.exports.specs.Packed.{packs}
 use Rattle.exports.proofs.Values.{fits, write_short}
 use Rattle.exports.proofs.krupovesh_write.Goals as goal
 
-pub pack_text-requires : goal.pack_text-requires
-pack_text-requires c = fits (write_short _ _ c.write-answer.ensures)
+pub pack_count-requires : goal.pack_count-requires
+pack_count-requires c = fits (write_short _ _ c.write.ensures)
 
 pub returns : goal.returns
-returns c = packs _ c.write-answer.ensures c.pack_text.ensures
+returns c = packs _ c.write.ensures c.pack_count.ensures

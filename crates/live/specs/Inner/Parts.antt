@@ -1,13 +1,11 @@
 -- What the private functions that take a part promise.
 use Rattle.std.specs.Prelude.{◌≡◌, List, map, ℕ, ◌≤◌, length}
-use Rattle.verdict.specs.Answers.{Passed, Refused}
 use Rattle.live.specs.Answers.{answer_number}
 use Rattle.live.specs.SoFar.{numbers}
 use Rattle.live.specs.Says.{State, all_says, after_all}
 use Rattle.live.specs.Kept.{places, full}
 use Rattle.live.specs.declared.step.Live.{Live}
 use Rattle.live.specs.Inner.Table.{Table, Sized}
-use Rattle.live.specs.LiveCall.{Buffers, call_refusal}
 use Rattle.live.specs.Inner.Held.{Holds}
 
 -- the steps of a part are taken, and each has its answer
@@ -17,8 +15,3 @@ pub record TakesPart (l : Live) (b : Table) (part answers : List ℕ) (r : Live)
   pub size : length answers' ≡ length answers
   pub answered : (j : State) → Holds l.standing l.top l.count b j → answers' ≡ map answer_number (all_says numbers (full numbers places) j part)
   pub holds : (j : State) → Holds l.standing l.top l.count b j → Holds r.standing r.top r.count b' (after_all numbers (full numbers places) j part)
-
--- n is the number that turns a call away; 0 where none does
-pub record CallNumber (b : Buffers) (part answers : List ℕ) (n : ℕ) : Type 0 where
-  pub none : n ≡ 0 → call_refusal b part answers ≡ Passed
-  pub some_number : (n ≡ 0 → ⊥) → call_refusal b part answers ≡ Refused n 0

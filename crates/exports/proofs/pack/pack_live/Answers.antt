@@ -5,16 +5,16 @@ use Rattle.exports.proofs.pack.pack_live.Goals as goal
 
 pub pack-requires : goal.pack-requires
 unfolding live_numbers
-pack-requires c = known_small live_numbers c.in-Refused.is c.requires
+pack-requires c = rw c.from.ensures (known_small live_numbers c.in-Err.is c.requires)
 
-pub pack-requires-in-Accepted : goal.pack-requires-in-Accepted
+pub pack-requires-in-Ok : goal.pack-requires-in-Ok
 unfolding live_numbers
-pack-requires-in-Accepted c = known_small live_numbers c.in-Accepted.is c.requires
+pack-requires-in-Ok c = known_small live_numbers c.in-Ok.is c.requires
 
-pub returns-in-Refused : goal.returns-in-Refused
+pub returns-in-Err : goal.returns-in-Err
 unfolding live_numbers
-returns-in-Refused c = known_packed live_numbers c.in-Refused.is c.pack.ensures
+returns-in-Err c = known_packed live_numbers c.in-Err.is (rw c.from.ensures at c.pack.ensures)
 
-pub returns-in-Accepted : goal.returns-in-Accepted
+pub returns-in-Ok : goal.returns-in-Ok
 unfolding live_numbers
-returns-in-Accepted c = known_packed live_numbers c.in-Accepted.is c.pack-in-Accepted.ensures
+returns-in-Ok c = known_packed live_numbers c.in-Ok.is c.pack-in-Ok.ensures

@@ -9,11 +9,11 @@ pack-requires c = known_small (read_numbers _) c.in-Store.is c.requires
 
 pub pack-requires-in-Committed : goal.pack-requires-in-Committed
 unfolding read_numbers
-pack-requires-in-Committed c = known_small (read_numbers _) c.in-Committed.is c.requires
+pack-requires-in-Committed c = rw c.from.ensures (known_small (read_numbers _) c.in-Committed.is c.requires)
 
 pub pack-requires-in-Reader : goal.pack-requires-in-Reader
 unfolding read_numbers
-pack-requires-in-Reader c = known_small (read_numbers _) c.in-Reader.is c.requires
+pack-requires-in-Reader c = rw c.from-in-Reader.ensures (known_small (read_numbers _) c.in-Reader.is c.requires)
 
 pub returns-in-Store : goal.returns-in-Store
 unfolding read_numbers
@@ -21,8 +21,8 @@ returns-in-Store c = known_packed (read_numbers _) c.in-Store.is c.pack.ensures
 
 pub returns-in-Committed : goal.returns-in-Committed
 unfolding read_numbers
-returns-in-Committed c = known_packed (read_numbers _) c.in-Committed.is c.pack-in-Committed.ensures
+returns-in-Committed c = known_packed (read_numbers _) c.in-Committed.is (rw c.from.ensures at c.pack-in-Committed.ensures)
 
 pub returns-in-Reader : goal.returns-in-Reader
 unfolding read_numbers
-returns-in-Reader c = known_packed (read_numbers _) c.in-Reader.is c.pack-in-Reader.ensures
+returns-in-Reader c = known_packed (read_numbers _) c.in-Reader.is (rw c.from-in-Reader.ensures at c.pack-in-Reader.ensures)
