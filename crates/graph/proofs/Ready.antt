@@ -89,15 +89,13 @@ module _ {m left wait ready todo : List ℕ} (d : Settled m left wait ready todo
       same_test (d.may t) (λ h. let f = free→ h in
       ⊎_elim (λ r. r) (λ (w : (w : ℕ) × (joined 128 m left w t ≡ true) × (in_row wait w t ≡ true)). absurd (not_both w.1 (f.unblocked w.0 (ends 128 m left w.0 t w.1).0))) (d.waits t f.is_node (nothing t)))
 
--- whether an edge leads to u, by the lowest from which one does
-module _ (m left : List ℕ) (u : ℕ) (row : List ℕ) (e : (a : ℕ) → takes_part 128 row a ≡ joined 128 m left a u) (w : ℕ) (is_lowest : w ≡ lowest 129 (takes_part 128 row)) where
-  pub none_before : 128 < w → some 129 (λ a. joined 128 m left a u) ≡ false
-  none_before h = →none _ (λ a l. sym (e a) ∙ none→ _ (lowest_some (takes_part 128 row) (omega arith)) a l)
+-- whether an edge leads to u, by those from which one does
+module _ (m left : List ℕ) (u : ℕ) (row : List ℕ) (e : (a : ℕ) → takes_part 128 row a ≡ joined 128 m left a u) where
+  pub none_before : some 129 (takes_part 128 row) ≡ false → some 129 (λ a. joined 128 m left a u) ≡ false
+  none_before h = →none _ (λ a l. sym (e a) ∙ none→ _ h a l)
 
-  pub one_before : w ≤ 128 → joined 128 m left w u ≡ true
-  one_before h =
-      let low : lowest 129 (takes_part 128 row) < 129 = omega arith in
-      sym (e w) ∙ ap (takes_part 128 row) is_lowest ∙ (lowest_is (takes_part 128 row) (lowest_passes (takes_part 128 row) low)).1
+  pub one_before : (w : ℕ) → takes_part 128 row w ≡ true → joined 128 m left w u ≡ true
+  one_before w h = sym (e w) ∙ h
 
 -- nobody is settled yet
 pub settled_none : (m left wait : List ℕ) → length left ≡ 2 → length wait ≡ row_words → Settled m left wait nobody left

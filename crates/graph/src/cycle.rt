@@ -4,12 +4,13 @@ ghost use Rattle.std.specs.Prelude.{◌≡◌, true, List, ℕ, suc, ◌+◌, �
 ghost use Rattle.words.specs.Tests.{◌below◌, ◌and◌, some, lowest};
 ghost use Rattle.graph.specs.Cycle.{is_cycle};
 ghost use Rattle.graph.specs.Matrix.{vertices, row_words, takes_part, joined};
+ghost use Rattle.graph.specs.Inner.Finding.{LowestOf};
 ghost use Rattle.graph.specs.Inner.Laying.{laid};
 ghost use Rattle.graph.specs.Inner.Distances.{pick, far, Around, Layers, Least, Cycled};
 
 use super::left::before;
 use super::rows::{put_row, row};
-use super::sets::{above, any, common, dropped, first, minus, takes_part, union, with_vertex};
+use super::sets::{EachVertex, above, any, common, minus, takes_part, union, with_vertex};
 use super::{ROWS, VERTICES, WORDS};
 
 // A shortest closed walk: how many vertices it has besides its lowest, and that one.
@@ -24,13 +25,9 @@ fn gathered(m: &[u64; ROWS], part: [u64; WORDS], front: [u64; WORDS]) -> [u64; W
     ensures { (t : ℕ) → takes_part vertices result t ≡ some (suc vertices) (λ u. takes_part vertices front u and joined vertices m.now part t u) }
 {
     let mut all = [0u64; WORDS];
-    let mut rest = front;
-    while any(rest) {
-        let u = first(rest);
+    for u in EachVertex(front) {
         let more = union(all, before(m, part, u));
         all = more;
-        let fewer = dropped(rest, u);
-        rest = fewer;
     }
     all
 }
@@ -128,20 +125,16 @@ fn best(layers: &mut [u64; ROWS], m: &[u64; ROWS], part: [u64; WORDS]) -> Ring
     Ring { len, start }
 }
 
-// The lowest vertex of a layer to which an edge leads from a, or the number behind the last vertex.
-fn nearer(m: &[u64; ROWS], part: [u64; WORDS], layer: [u64; WORDS], a: usize) -> usize
-    ensures { result ≡ lowest (suc vertices) (λ u. takes_part vertices layer u and joined vertices m.now part a u) }
+// The lowest vertex of a layer to which an edge leads from a.
+fn nearer(m: &[u64; ROWS], part: [u64; WORDS], layer: [u64; WORDS], a: usize) -> Option<usize>
+    ensures { LowestOf (λ u. takes_part vertices layer u and joined vertices m.now part a u) result }
 {
-    let mut rest = layer;
-    while any(rest) {
-        let u = first(rest);
+    for u in EachVertex(layer) {
         if takes_part(before(m, part, u), a) {
-            return u;
+            return Some(u);
         }
-        let fewer = dropped(rest, u);
-        rest = fewer;
     }
-    VERTICES + 1
+    None
 }
 
 // Lays down, from place 1 on, the lowest closed walk from s with len vertices besides s, by its layers.
@@ -158,12 +151,9 @@ fn trace(
     ensures { list.new ≡ laid 1 (pick (joined vertices m.now part) s len s) list.old }
 {
     let mut a = s;
-    let mut k = len;
-    while 0 < k {
-        let v = nearer(m, part, row(layers, k), a);
-        k -= 1;
-        list[len - k] = v as u16;
-        a = v;
+    for k in (1..=len).rev() {
+        a = nearer(m, part, row(layers, k), a).unwrap();
+        list[len + 1 - k] = a as u16;
     }
 }
 
