@@ -15,7 +15,7 @@ use Rattle.words.proofs.From.{lowest_same}
 use Rattle.graph.proofs.Peel.{Free, free→, →free, without→, →without, →apart, apart→}
 use Rattle.graph.proofs.Marks.{Part, part→, size_unmarked, joined→, joined_apart, ends}
 use Rattle.graph.proofs.TwoWords.{no_member}
-use Rattle.graph.proofs.Members.{dropped_out}
+use Rattle.graph.proofs.SetWalks.{dropped_out}
 
 module _ {m left wait ready todo : List ℕ} (d : Settled m left wait ready todo) (u : ℕ) (its_turn : takes_part 128 todo u ≡ true) where
   still : (t : ℕ) → takes_part 128 (unmarked u todo) t ≡ true → takes_part 128 todo t ≡ true

@@ -12,7 +12,7 @@ use super::sets::{EachVertex, any, common, dropped, first, with_vertex};
 use super::{ROWS, VERTICES, WORDS};
 
 // What was placed: how many entries of the list stand, and what is left.
-#[derive(Drop)]
+#[derive(Drop, Clone, Copy)]
 pub(crate) struct Placing {
     pub count: usize,
     pub left: [u64; WORDS],
@@ -23,15 +23,13 @@ pub fn keeps(m: &[u64; ROWS], part: [u64; WORDS], given: &[u16]) -> bool
     ensures { result ≡ matrix_order vertices m.now part given.now }
 {
     let mut left = part;
-    let mut i = 0;
-    while i < given.len() {
-        let v = given[i] as usize;
+    for v in given {
+        let v = usize::from(*v);
         if !begins(m, left, v) {
             return false;
         }
         let rest = dropped(left, v);
         left = rest;
-        i += 1;
     }
     !any(left)
 }

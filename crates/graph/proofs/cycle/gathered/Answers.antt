@@ -1,5 +1,5 @@
 -- `gathered` meets its contract.
-use Rattle.graph.proofs.Members.{gathered_none, gathered_more, gathered_all}
+use Rattle.graph.proofs.SetWalks.{gathered_none, gathered_more, gathered_all}
 use borrow.Author.Rules.{rules}
 use Rattle.graph.proofs.cycle.gathered.Goals as goal
 

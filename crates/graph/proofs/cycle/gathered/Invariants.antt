@@ -1,6 +1,6 @@
 -- What the loop of `gathered` keeps.
 use Rattle.graph.specs.Matrix.{joined}
-use Rattle.graph.proofs.Members.{Gathered}
+use Rattle.graph.proofs.SetWalks.{Gathered}
 use Rattle.graph.proofs.cycle.gathered.Given as goal
 
 abbrev pub invariant-loop-u : goal.invariant-loop-u

@@ -1,6 +1,6 @@
 -- `nearer` meets its contract.
 use mathlib.Core.Path.{sym, ◌∙◌}
-use Rattle.graph.proofs.Members.{sought_here, sought_on, sought_all}
+use Rattle.graph.proofs.SetWalks.{sought_here, sought_on, sought_all}
 use Rattle.graph.proofs.cycle.nearer.Goals as goal
 
 pub returns-then-takes_part : goal.returns-then-takes_part

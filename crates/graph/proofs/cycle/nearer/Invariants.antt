@@ -1,6 +1,6 @@
 -- What the loop of `nearer` keeps.
 use Rattle.graph.specs.Matrix.{joined}
-use Rattle.graph.proofs.Members.{Sought}
+use Rattle.graph.proofs.SetWalks.{Sought}
 use Rattle.graph.proofs.cycle.nearer.Given as goal
 
 abbrev pub invariant-loop-u : goal.invariant-loop-u

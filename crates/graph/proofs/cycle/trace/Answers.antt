@@ -4,7 +4,7 @@ use Prim.Native.Nat.{◌+◌, ◌-◌}
 use native.Mathlib.Omega.{arith}
 use Rattle.graph.specs.Inner.Finding.{IsLowest}
 use Rattle.graph.proofs.Marks.{ends_to}
-use Rattle.graph.proofs.Members.{found_some}
+use Rattle.graph.proofs.SetWalks.{found_some}
 use Rattle.graph.proofs.Ring.{traced_none, traced_more, traced_all, nearest, nearest_some}
 use Rattle.graph.proofs.cycle.trace.Goals as goal
 

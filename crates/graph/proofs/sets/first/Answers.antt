@@ -6,7 +6,7 @@ use Rattle.words.proofs.Truth.{lowest_bound}
 use Rattle.bits.specs.Word.{marked}
 use lib.ListN.{get_or}
 use Rattle.graph.proofs.TwoWords.{any_low, any_high, first_low, first_high}
-use Rattle.graph.proofs.Members.{lowest_of}
+use Rattle.graph.proofs.SetWalks.{lowest_of}
 use Rattle.graph.proofs.sets.first.Goals as goal
 
 pub overflow_add-result : goal.overflow_add-result

@@ -3,7 +3,7 @@ use mathlib.Core.Path.{◌≡◌}
 use lib.ListN.{length}
 use borrow.Author.Rules.{rules}
 use Rattle.graph.proofs.Marks.{part→}
-use Rattle.graph.proofs.Members.{turn_of, turn_fewer}
+use Rattle.graph.proofs.SetWalks.{turn_of, turn_fewer}
 use Rattle.graph.proofs.sets.EachVertexIterator.next.Goals as goal
 
 pub dropped-self-requires : goal.dropped-self-requires
