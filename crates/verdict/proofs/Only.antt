@@ -30,7 +30,7 @@ use Rattle.verdict.specs.Call.{Call, turned_away, answered, CleanCall, SnapshotC
 use Rattle.verdict.specs.declared.answers.CleanAnswer.{CleanAnswer}
 use Rattle.verdict.specs.declared.answers.SnapshotAnswer.{SnapshotAnswer}
 use Rattle.verdict.specs.declared.answers.WitnessAnswer.{WitnessAnswer}
-use Rattle.graph.specs.declared.Shape.TheVariants as shape
+use Rattle.graph.specs.Shows as shape
 use Rattle.words.proofs.Truth.{and→}
 use Rattle.words.proofs.Dictionary.{dictionary_same, first_one}
 use Rattle.graph.proofs.Only.{never_first, shows_one}
