@@ -3,14 +3,14 @@ use mathlib.Core.Path.{◌≡◌, refl, sym, ap, ◌∙◌}
 use mathlib.Core.Bool.{Bool, true, false}
 use mathlib.Core.Logic.{◌⊎◌, inl, inr, ⊎_elim}
 use mathlib.Core.List.{List}
-use Prim.Native.Nat.{ℕ, ◌≤◌, ◌<◌}
+use Prim.Native.Nat.{ℕ, ◌≤◌}
 use native.Mathlib.Omega.{arith}
 use lib.ListN.{length, length-replicate}
 use Rattle.words.specs.Tests.{◌is◌, ◌upto◌, ◌and◌, ◌or◌, some, lowest}
 use Rattle.graph.specs.Matrix.{row_words, takes_part, joined, in_row, Joins}
 use Rattle.graph.specs.Inner.Peel.{may_begin, without, apart, unmarked}
 use Rattle.graph.specs.Inner.Waiting.{nobody, Settled}
-use Rattle.words.proofs.Truth.{decide, not_both, to_false, same_test, and→, →and, or→, →or_left, →or_right, is→, →is, isnt→, →upto, none→, →none, lowest_is, lowest_none, lowest_some, lowest_passes}
+use Rattle.words.proofs.Truth.{decide, not_both, to_false, same_test, and→, →and, or→, →or_left, →or_right, is→, →is, isnt→, →upto, none→, →none, lowest_none}
 use Rattle.words.proofs.From.{lowest_same}
 use Rattle.graph.proofs.Peel.{Free, free→, →free, without→, →without, →apart, apart→}
 use Rattle.graph.proofs.Marks.{Part, part→, size_unmarked, joined→, joined_apart, ends}

@@ -1,6 +1,6 @@
 -- One turn of `follow`: the first order later than a ∷ w, from what is later than w without a's mark, or else from a higher beginning.
-use mathlib.Core.Path.{◌≡◌, refl, sym, ap, subst, ◌∙◌}
-use mathlib.Core.Bool.{Bool, true, false, false≢true}
+use mathlib.Core.Path.{◌≡◌, sym, ap, subst, ◌∙◌}
+use mathlib.Core.Bool.{Bool, true, false}
 use mathlib.Core.List.{List, [], ◌∷◌}
 use Rattle.std.specs.Prelude.{Option}
 use Prim.Native.Nat.{ℕ, ◌+◌, ◌≤◌, ◌<◌}
@@ -8,8 +8,8 @@ use native.Mathlib.Omega.{arith}
 use native.Mathlib.Numerals.{add-one}
 use lib.ListN.{length, get_or, drop, set, length-drop, drop_of_length-le}
 use lib.Seq.{drop-cons}
-use Rattle.words.specs.Tests.{◌upto◌, ◌and◌, some, count, lowest}
-use Rattle.words.specs.First.{dictionary, First, Never, later}
+use Rattle.words.specs.Tests.{◌upto◌, ◌and◌, some, count}
+use Rattle.words.specs.First.{Never, later}
 use Rattle.graph.specs.Matrix.{takes_part, joined, matrix_order}
 use Rattle.graph.specs.Cycle.{is_cycle}
 use Rattle.graph.specs.Inner.Peel.{may_begin, unmarked}

@@ -73,7 +73,7 @@ pub fn next(m: &[u64; ROWS], part: [u64; WORDS], given: &[u16]) -> Option<Member
     requires { matrix_order vertices m.now part given.now ≡ true }
     ensures { Follows vertices m.now part given.now result }
 {
-    let mut list = [0u16; VERTICES];
-    let count = onward::follow(&mut list, m, part, given, 0)?;
-    Some(Members { list, count })
+    let mut later = [0u16; VERTICES];
+    let count = onward::follow(&mut later, m, part, given, 0)?;
+    Some(Members { list: later, count })
 }

@@ -1,5 +1,5 @@
 -- `best` meets its contract.
-use mathlib.Core.Path.{refl, sym, ◌∙◌}
+use mathlib.Core.Path.{refl}
 use native.Mathlib.Omega.{arith}
 use Rattle.graph.proofs.Ring.{least_none, so_far_bound, so_far_lower, so_far_same, so_far_all}
 use Rattle.graph.proofs.cycle.best.Goals.{in-Some, in_default}
@@ -14,11 +14,13 @@ around-requires c =
 
 pub loop-s-preserved : goal.loop-s-preserved
 loop-s-preserved c =
-    let before = c.loop-s.invariant.1 in
-    (c.around.ensures.size, elim c.match-around.branch [
-      | in-Some w ↦ rw (w.found-is, w.limit-is) (refl, so_far_lower _ _ _ _ before (omega arith) _ _ w.in-Some.ensures.way)
-      | in_default w ↦ rw (w.found-is, w.limit-is) (so_far_same _ _ _ _ before w.in_default.ensures.way)
-    ])
+    let before = c.loop-s.invariant.1 in (
+      c.around.ensures.size,
+      elim c.match-around.branch [
+        | in-Some w ↦ rw (w.found-is, w.limit-is) (refl, so_far_lower _ _ _ _ before (omega arith) _ _ w.in-Some.ensures.way)
+        | in_default w ↦ rw (w.found-is, w.limit-is) (so_far_same _ _ _ _ before w.in_default.ensures.way)
+      ],
+    )
 
 pub returns : goal.returns
 returns c = (c.loop-s.invariant.0, so_far_all _ _ _ _ c.loop-s.invariant.1 (omega arith))

@@ -1,5 +1,4 @@
 -- `cycle` meets its contract.
-use mathlib.Core.Path.{◌≡◌}
 use native.Mathlib.Omega.{arith}
 use Rattle.graph.specs.Matrix.{joined}
 use Rattle.graph.specs.Inner.Distances.{Least}

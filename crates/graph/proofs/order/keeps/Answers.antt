@@ -1,9 +1,7 @@
 -- `keeps` meets its contract.
-use mathlib.Core.Path.{◌≡◌, sym, ap, ◌∙◌}
-use mathlib.Core.Bool.{true}
+use mathlib.Core.Path.{sym, ap, ◌∙◌}
 use native.Mathlib.Omega.{arith}
-use lib.ListN.{get_or, length}
-use Rattle.words.specs.Tests.{fails, ◌and◌}
+use Rattle.words.specs.Tests.{fails}
 use Rattle.words.proofs.Truth.{not_fails, and_true, and_no_left}
 use Rattle.graph.proofs.Peel.{free→}
 use Rattle.graph.proofs.Marks.{part→, size_unmarked, matrix_turn, matrix_end}
