@@ -11,6 +11,7 @@ use Rattle.words.specs.Tests.{◌is◌, provided◌then◌else◌, some}
 use Rattle.words.proofs.Truth.{decide, is→, isnt→, provided_true, provided_false, none→}
 use Rattle.bits.specs.Word.{marked, less}
 use Rattle.bits.specs.Table.{Puts}
+use Rattle.bits.specs.Walk.{Turn}
 use Rattle.bits.proofs.Walks.{turned, unturned}
 
 -- with v put in at each mark that is left, `next` is the table with v put in at each mark
@@ -32,6 +33,9 @@ module _ {table : List ℕ} {marks v left : ℕ} {next : List ℕ} (put : MarksP
           let z : x ≡ y = is→ q in
           rw z (provided_false _ _ (turned left y) ∙ get_or-set_same next y v 0 (omega (arith, put.size, e)) ∙ sym (provided_true _ _ m) ∙ put.entry e y l)
       go e x h (inr q) = rw (unturned left y x q, get_or-set_other next y x v 0 (isnt→ q)) (put.entry e x h)
+
+  pub put_turn : {y others : ℕ} → Turn left y others → MarksPut table marks v others (set next y v)
+  put_turn {y} t = rw t.after (put_next_mark y t.size t.mark)
 
   -- no mark is left
   pub put_last : some 64 (marked left) ≡ false → Puts table marks v next

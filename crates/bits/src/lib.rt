@@ -2,12 +2,14 @@
 #![tactic(auto)]
 
 mod table;
+mod walk;
 
 ghost use Rattle.std.specs.Prelude.{◌≡◌, ℕ};
 ghost use Rattle.words.specs.Tests.{◌below◌, ◌upto◌, ◌and◌, ◌or◌, fails, provided◌then◌else◌, some, lowest};
 ghost use Rattle.bits.specs.Word.{marked, more, less};
 
 pub use table::{marked_above, put_marked};
+pub use walk::EachMark;
 
 // Whether x is marked.
 pub fn has_mark(m: u64, x: usize) -> bool
@@ -71,7 +73,7 @@ pub fn any_mark(m: u64) -> bool
 pub fn lowest_mark(m: u64) -> usize
     ensures { result ≡ lowest 64 (marked m) }
 {
-    u64::trailing_zeros(m) as usize
+    m.trailing_zeros() as usize
 }
 
 // What is marked from x on.

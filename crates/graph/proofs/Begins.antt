@@ -3,12 +3,14 @@ use mathlib.Core.Path.{◌≡◌, sym, subst}
 use mathlib.Core.Bool.{true, false}
 use mathlib.Core.List.{List}
 use Prim.Native.Nat.{ℕ, suc, ◌≤◌, ◌<◌}
+use Rattle.std.specs.Prelude.{Option, Some, None, MatchOption}
 use lib.ListN.{length}
 use native.Mathlib.Omega.{arith}
 use Rattle.words.specs.Tests.{◌upto◌, ◌and◌, count, lowest}
 use Rattle.graph.specs.Matrix.{takes_part}
 use Rattle.graph.specs.Inner.Peel.{may_begin, unmarked}
-use Rattle.words.proofs.Truth.{to_false, and→, →and, upto→, →upto, lowest_is, lowest_le, lowest_passes}
+use Rattle.graph.specs.Inner.Finding.{LowestOf}
+use Rattle.words.proofs.Truth.{not_both, to_false, and→, →and, upto→, →upto, →none, lowest_is, lowest_at, lowest_le, lowest_passes}
 use Rattle.graph.proofs.Peel.{free→}
 use Rattle.graph.proofs.Marks.{Part, part→}
 use Rattle.graph.proofs.Sized.{part_less}
@@ -36,3 +38,15 @@ module _ (m left : List ℕ) (start v : ℕ) (is_lowest : v ≡ lowest 129 (λ t
   -- without its mark one vertex less is left
   pub lowest_less : length left ≡ 2 → v ≤ 128 → count 129 (takes_part 128 left) ≡ suc (count 129 (takes_part 128 (unmarked v left)))
   lowest_less size h = part_less 128 m left (omega arith) v (free→ (lowest→ h).begins).is_node
+
+-- the first that passes of those from `start` on
+pub lowest_from : (m left : List ℕ) (start : ℕ) (r : Option ℕ)
+    → MatchOption r ((k : ℕ) → start ≤ k → k < 129 → may_begin m left k ≡ false) (λ v. (start ≤ v) × (v < 129) × (may_begin m left v ≡ true) × ((k : ℕ) → start ≤ k → k < v → may_begin m left k ≡ false))
+    → LowestOf (λ v. start upto v and may_begin m left v) r
+lowest_from m left start None h = →none _ (λ k l. to_false _ (λ q. not_both (and→ q).1 (h k (upto→ (and→ q).0) l)))
+lowest_from m left start (Some v) (from, bound, begins, others) =
+    record {
+      high = omega arith;
+      one = →and (→upto from) begins;
+      first = sym (lowest_at _ v bound (→and (→upto from) begins) (λ j l. to_false _ (λ q. not_both (and→ q).1 (others j (upto→ (and→ q).0) l))));
+    }

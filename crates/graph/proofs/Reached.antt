@@ -13,7 +13,7 @@ use Rattle.graph.specs.Reach.{Way, stay, onward, row_edge, Reaches}
 use Rattle.graph.specs.Inner.Peel.{without, unmarked}
 use Rattle.graph.proofs.Peel.{without→, →without, count_without}
 use Rattle.graph.proofs.Marks.{part→}
-use Rattle.graph.proofs.Members.{dropped_out}
+use Rattle.graph.proofs.SetWalks.{dropped_out}
 
 -- no member among the vertices: none at all
 pub nobody_in : (s : List ℕ) → some 129 (takes_part 128 s) ≡ false → (t : ℕ) → takes_part 128 s t ≡ false

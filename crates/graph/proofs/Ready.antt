@@ -3,19 +3,19 @@ use mathlib.Core.Path.{◌≡◌, refl, sym, ap, ◌∙◌}
 use mathlib.Core.Bool.{Bool, true, false}
 use mathlib.Core.Logic.{◌⊎◌, inl, inr, ⊎_elim}
 use mathlib.Core.List.{List}
-use Prim.Native.Nat.{ℕ, ◌≤◌, ◌<◌}
+use Prim.Native.Nat.{ℕ, ◌≤◌}
 use native.Mathlib.Omega.{arith}
 use lib.ListN.{length, length-replicate}
 use Rattle.words.specs.Tests.{◌is◌, ◌upto◌, ◌and◌, ◌or◌, some, lowest}
 use Rattle.graph.specs.Matrix.{row_words, takes_part, joined, in_row, Joins}
 use Rattle.graph.specs.Inner.Peel.{may_begin, without, apart, unmarked}
 use Rattle.graph.specs.Inner.Waiting.{nobody, Settled}
-use Rattle.words.proofs.Truth.{decide, not_both, to_false, same_test, and→, →and, or→, →or_left, →or_right, is→, →is, isnt→, →upto, none→, →none, lowest_is, lowest_none, lowest_some, lowest_passes}
+use Rattle.words.proofs.Truth.{decide, not_both, to_false, same_test, and→, →and, or→, →or_left, →or_right, is→, →is, isnt→, →upto, none→, →none, lowest_none}
 use Rattle.words.proofs.From.{lowest_same}
 use Rattle.graph.proofs.Peel.{Free, free→, →free, without→, →without, →apart, apart→}
 use Rattle.graph.proofs.Marks.{Part, part→, size_unmarked, joined→, joined_apart, ends}
 use Rattle.graph.proofs.TwoWords.{no_member}
-use Rattle.graph.proofs.Members.{dropped_out}
+use Rattle.graph.proofs.SetWalks.{dropped_out}
 
 module _ {m left wait ready todo : List ℕ} (d : Settled m left wait ready todo) (u : ℕ) (its_turn : takes_part 128 todo u ≡ true) where
   still : (t : ℕ) → takes_part 128 (unmarked u todo) t ≡ true → takes_part 128 todo t ≡ true
@@ -89,15 +89,13 @@ module _ {m left wait ready todo : List ℕ} (d : Settled m left wait ready todo
       same_test (d.may t) (λ h. let f = free→ h in
       ⊎_elim (λ r. r) (λ (w : (w : ℕ) × (joined 128 m left w t ≡ true) × (in_row wait w t ≡ true)). absurd (not_both w.1 (f.unblocked w.0 (ends 128 m left w.0 t w.1).0))) (d.waits t f.is_node (nothing t)))
 
--- whether an edge leads to u, by the lowest from which one does
-module _ (m left : List ℕ) (u : ℕ) (row : List ℕ) (e : (a : ℕ) → takes_part 128 row a ≡ joined 128 m left a u) (w : ℕ) (is_lowest : w ≡ lowest 129 (takes_part 128 row)) where
-  pub none_before : 128 < w → some 129 (λ a. joined 128 m left a u) ≡ false
-  none_before h = →none _ (λ a l. sym (e a) ∙ none→ _ (lowest_some (takes_part 128 row) (omega arith)) a l)
+-- whether an edge leads to u, by those from which one does
+module _ (m left : List ℕ) (u : ℕ) (row : List ℕ) (e : (a : ℕ) → takes_part 128 row a ≡ joined 128 m left a u) where
+  pub none_before : some 129 (takes_part 128 row) ≡ false → some 129 (λ a. joined 128 m left a u) ≡ false
+  none_before h = →none _ (λ a l. sym (e a) ∙ none→ _ h a l)
 
-  pub one_before : w ≤ 128 → joined 128 m left w u ≡ true
-  one_before h =
-      let low : lowest 129 (takes_part 128 row) < 129 = omega arith in
-      sym (e w) ∙ ap (takes_part 128 row) is_lowest ∙ (lowest_is (takes_part 128 row) (lowest_passes (takes_part 128 row) low)).1
+  pub one_before : (w : ℕ) → takes_part 128 row w ≡ true → joined 128 m left w u ≡ true
+  one_before w h = sym (e w) ∙ h
 
 -- nobody is settled yet
 pub settled_none : (m left wait : List ℕ) → length left ≡ 2 → length wait ≡ row_words → Settled m left wait nobody left

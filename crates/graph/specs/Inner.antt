@@ -4,3 +4,4 @@ pub mod Laying
 pub mod Distances
 pub mod Rows
 pub mod Waiting
+pub mod Finding

@@ -1,14 +1,13 @@
 -- The graph that rows of marks stand for, and what the public functions say of it. Vertices are 1..n.
-use Rattle.std.specs.Prelude.{◌≡◌, Bool, true, false, List, [], ℕ, suc, ◌+◌, ◌-◌, ◌*◌, length}
-use Rattle.std.proofs.Math.Option.{Option, none, some as just}
+use Rattle.std.specs.Prelude.{◌≡◌, Bool, List, ℕ, suc, ◌+◌, ◌-◌, ◌*◌, length, Option, Some, None}
 use Rattle.words.specs.Tests.{◌is◌, ◌upto◌, ◌and◌, ◌or◌, fails}
 use Rattle.bits.specs.Run.{bit}
 use Rattle.words.specs.Lists.{entries}
 use Rattle.words.specs.First.{dictionary, First, Never, later}
 use Rattle.graph.specs.Order.{is_order}
-use Rattle.graph.specs.Shows.{Shows}
+use Rattle.graph.specs.Shows.{Shape, Shows}
+use Rattle.graph.specs.declared.Members.{Members}
 use Rattle.graph.specs.declared.Shown.{Shown}
-use Rattle.graph.specs.declared.Later.{Later}
 
 -- how many vertices the functions are made for
 abbrev pub vertices : ℕ
@@ -45,31 +44,20 @@ pub record Drops (m : List ℕ) (a b : ℕ) (m' : List ℕ) : Type 0 where
   pub size : length m' ≡ length m
   pub each : (c d : ℕ) → in_row m' c d ≡ (in_row m c d and fails (c is b and d is a))
 
--- the dictionary-first of the lists that pass, or none where none does
-pub data Earliest (passes : List ℕ → Bool) : Option (List ℕ) → Type 0 where
-  earliest : {w : List ℕ} → First dictionary passes w → Earliest passes (just w)
-  not_any : Never passes → Earliest passes none
-
--- whether there is a list, and which; the empty one stands for none
-unfoldable pub is_some : Option (List ℕ) → Bool
-is_some (just w) = true
-is_some none = false
-
-unfoldable pub later_members : Option (List ℕ) → List ℕ
-later_members (just w) = w
-later_members none = []
-
--- what `sort` answers: the list that is shown, its shape, and how many members it has
-pub record Sorts (n : ℕ) (m part : List ℕ) (r : Shown) : Type 0 where
+-- an answered list: its members are right, zeros stand behind them, and they are counted
+pub record Lists (n : ℕ) (fits : List ℕ → Type 0) (r : Members) : Type 0 where
   pub members : List ℕ
-  pub right : Shows (suc n) (takes_part n part) (joined n m part) r.shape members
+  pub right : fits members
   pub listed : r.list ≡ entries n members
   pub counted : r.count ≡ length members
 
--- what `next` answers after the order v: the first later order, or that there is none
-pub record Follows (n : ℕ) (m part v : List ℕ) (r : Later) : Type 0 where
-  pub earliest : Option (List ℕ)
-  pub right : Earliest (later (matrix_order n m part) v) earliest
-  pub told : r.found ≡ is_some earliest
-  pub listed : r.list ≡ entries n (later_members earliest)
-  pub counted : r.count ≡ length (later_members earliest)
+module _ (n : ℕ) (m part : List ℕ) where
+  -- what `sort` answers: an order, or a cycle, that the graph shows
+  abbrev pub Sorts : Shown → Type 0
+  Sorts (Shown.Order r) = Lists n (Shows (suc n) (takes_part n part) (joined n m part) Shape.Order) r
+  Sorts (Shown.Cycle r) = Lists n (Shows (suc n) (takes_part n part) (joined n m part) Shape.Cycle) r
+
+  -- what `next` answers after the order v: the first later order, or none where there is none
+  abbrev pub Follows : List ℕ → Option Members → Type 0
+  Follows v (Some r) = Lists n (First dictionary (later (matrix_order n m part) v)) r
+  Follows v None = Never (later (matrix_order n m part) v)

@@ -1,19 +1,20 @@
 // The first shortest cycle. For each vertex s those above s are found layer by layer, by how far they are from s on a walk through vertices above s. The
-// shortest closed walk is a cycle, and the lowest one is traced through its layers. As many as there are vertices stand for no walk.
+// shortest closed walk is a cycle, and the lowest one is traced through its layers.
 ghost use Rattle.std.specs.Prelude.{◌≡◌, true, List, ℕ, suc, ◌+◌, ◌≤◌, ◌<◌, length};
 ghost use Rattle.words.specs.Tests.{◌below◌, ◌and◌, some, lowest};
 ghost use Rattle.graph.specs.Cycle.{is_cycle};
 ghost use Rattle.graph.specs.Matrix.{vertices, row_words, takes_part, joined};
+ghost use Rattle.graph.specs.Inner.Finding.{LowestOf};
 ghost use Rattle.graph.specs.Inner.Laying.{laid};
-ghost use Rattle.graph.specs.Inner.Distances.{pick, far, Around, Layers, Least, Cycled};
+ghost use Rattle.graph.specs.Inner.Distances.{pick, far, Around, Layers, LeastOf, Cycled};
 
 use super::left::before;
 use super::rows::{put_row, row};
-use super::sets::{above, any, common, dropped, first, minus, takes_part, union, with_vertex};
+use super::sets::{EachVertex, above, any, common, minus, takes_part, union, with_vertex};
 use super::{ROWS, VERTICES, WORDS};
 
 // A shortest closed walk: how many vertices it has besides its lowest, and that one.
-#[derive(Drop)]
+#[derive(Drop, Clone, Copy)]
 struct Ring {
     len: usize,
     start: usize,
@@ -24,13 +25,9 @@ fn gathered(m: &[u64; ROWS], part: [u64; WORDS], front: [u64; WORDS]) -> [u64; W
     ensures { (t : ℕ) → takes_part vertices result t ≡ some (suc vertices) (λ u. takes_part vertices front u and joined vertices m.now part t u) }
 {
     let mut all = [0u64; WORDS];
-    let mut rest = front;
-    while any(rest) {
-        let u = first(rest);
+    for u in EachVertex(front) {
         let more = union(all, before(m, part, u));
         all = more;
-        let fewer = dropped(rest, u);
-        rest = fewer;
     }
     all
 }
@@ -41,49 +38,45 @@ fn rising(m: &[u64; ROWS], part: [u64; WORDS]) -> [u64; WORDS]
 {
     let mut all = [0u64; WORDS];
     let mut lower = [0u64; WORDS];
-    let mut u: usize = 1;
-    while u <= VERTICES {
+    for u in 1..=VERTICES {
         let more = union(all, common(before(m, part, u), lower));
         all = more;
         let wider = with_vertex(lower, u);
         lower = wider;
-        u += 1;
     }
     all
 }
 
-// How many vertices the shortest closed walk from s has besides s, of those with fewer than limit; none where there is no such walk. The layers
-// on the way go into the rows, the first one into the row of 1.
+// How many vertices the shortest closed walk from s has besides s, of those with fewer than limit. The layers on the way go into the rows, the
+// first one into the row of 1.
 fn closing(
     layers: &mut [u64; ROWS],
     m: &[u64; ROWS],
     part: [u64; WORDS],
     s: usize,
     limit: usize,
-) -> usize
+) -> Option<usize>
     requires { (length layers.old ≡ row_words) × (1 ≤ s) × (s ≤ vertices) × (1 ≤ limit) × (limit ≤ vertices) }
     ensures { Around (joined vertices m.now part) s limit result layers.new }
 {
     let higher = above(part, s);
     let mut front = common(before(m, part, s), higher);
     let mut rest = minus(higher, front);
-    let mut d: usize = 0;
-    while d + 1 < limit {
+    for d in 1..limit {
         if !any(front) {
-            return VERTICES;
+            return None;
         }
-        put_row(layers, front, d + 1);
+        put_row(layers, front, d);
         let back = gathered(m, part, front);
         if takes_part(back, s) {
-            return d + 1;
+            return Some(d);
         }
         let next = common(back, rest);
         front = next;
         let fewer = minus(rest, next);
         rest = fewer;
-        d += 1;
     }
-    VERTICES
+    None
 }
 
 // The same, for any limit. There is none from a vertex from which no edge leads to a higher one.
@@ -94,54 +87,47 @@ fn around(
     rises: [u64; WORDS],
     s: usize,
     limit: usize,
-) -> usize
+) -> Option<usize>
     requires { (length layers.old ≡ row_words) × (1 ≤ s) × (s ≤ vertices) × (limit ≤ vertices)
         × ((t : ℕ) → takes_part vertices rises t ≡ some (suc vertices) (λ u. t below u and joined vertices m.now part t u)) }
     ensures { Around (joined vertices m.now part) s limit result layers.new }
 {
     if limit <= 1 {
-        return VERTICES;
+        return None;
     }
     if !takes_part(rises, s) {
-        return VERTICES;
+        return None;
     }
     closing(layers, m, part, s, limit)
 }
 
 // The shortest closed walk, and of these the one whose lowest vertex is lowest.
-fn best(layers: &mut [u64; ROWS], m: &[u64; ROWS], part: [u64; WORDS]) -> Ring
+fn best(layers: &mut [u64; ROWS], m: &[u64; ROWS], part: [u64; WORDS]) -> Option<Ring>
     requires { length layers.old ≡ row_words }
-    ensures { (length layers.new ≡ row_words) × Least (joined vertices m.now part) (suc vertices) result.len result.start }
+    ensures { (length layers.new ≡ row_words) × LeastOf (joined vertices m.now part) (suc vertices) result }
 {
     let rises = rising(m, part);
-    let mut len: usize = VERTICES;
-    let mut start: usize = 0;
-    let mut s: usize = 1;
-    while s <= VERTICES {
-        let k = around(layers, m, part, rises, s, len);
-        if k < len {
-            len = k;
-            start = s;
+    let mut found = None;
+    let mut limit = VERTICES;
+    for s in 1..=VERTICES {
+        if let Some(len) = around(layers, m, part, rises, s, limit) {
+            found = Some(Ring { len, start: s });
+            limit = len;
         }
-        s += 1;
     }
-    Ring { len, start }
+    found
 }
 
-// The lowest vertex of a layer to which an edge leads from a, or the number behind the last vertex.
-fn nearer(m: &[u64; ROWS], part: [u64; WORDS], layer: [u64; WORDS], a: usize) -> usize
-    ensures { result ≡ lowest (suc vertices) (λ u. takes_part vertices layer u and joined vertices m.now part a u) }
+// The lowest vertex of a layer to which an edge leads from a.
+fn nearer(m: &[u64; ROWS], part: [u64; WORDS], layer: [u64; WORDS], a: usize) -> Option<usize>
+    ensures { LowestOf (λ u. takes_part vertices layer u and joined vertices m.now part a u) result }
 {
-    let mut rest = layer;
-    while any(rest) {
-        let u = first(rest);
+    for u in EachVertex(layer) {
         if takes_part(before(m, part, u), a) {
-            return u;
+            return Some(u);
         }
-        let fewer = dropped(rest, u);
-        rest = fewer;
     }
-    VERTICES + 1
+    None
 }
 
 // Lays down, from place 1 on, the lowest closed walk from s with len vertices besides s, by its layers.
@@ -158,12 +144,9 @@ fn trace(
     ensures { list.new ≡ laid 1 (pick (joined vertices m.now part) s len s) list.old }
 {
     let mut a = s;
-    let mut k = len;
-    while 0 < k {
-        let v = nearer(m, part, row(layers, k), a);
-        k -= 1;
-        list[len - k] = v as u16;
-        a = v;
+    for k in (1..=len).rev() {
+        a = nearer(m, part, row(layers, k), a).unwrap();
+        list[len + 1 - k] = a as u16;
     }
 }
 
@@ -173,10 +156,9 @@ pub(crate) fn cycle(list: &mut [u16; VERTICES], m: &[u64; ROWS], part: [u64; WOR
     ensures { Cycled m.now part list.old result list.new }
 {
     let mut layers = [0u64; ROWS];
-    let ring = best(&mut layers, m, part);
-    let start = ring.start;
-    let len = closing(&mut layers, m, part, start, VERTICES);
-    list[0] = start as u16;
-    trace(list, m, part, &layers, start, len);
-    len + 1
+    let ring = best(&mut layers, m, part).unwrap();
+    closing(&mut layers, m, part, ring.start, VERTICES);
+    list[0] = ring.start as u16;
+    trace(list, m, part, &layers, ring.start, ring.len);
+    ring.len + 1
 }

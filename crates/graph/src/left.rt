@@ -1,8 +1,9 @@
 // What is left of a graph: the vertices of a set, and the edges between them.
 ghost use Rattle.std.specs.Prelude.{◌≡◌, ℕ, suc, ◌≤◌};
-ghost use Rattle.words.specs.Tests.{◌upto◌, ◌and◌, lowest};
+ghost use Rattle.words.specs.Tests.{◌upto◌, ◌and◌};
 ghost use Rattle.graph.specs.Matrix.{vertices, takes_part, joined};
 ghost use Rattle.graph.specs.Inner.Peel.{may_begin};
+ghost use Rattle.graph.specs.Inner.Finding.{LowestOf};
 
 use super::rows::row;
 use super::sets::{any, common, dropped, takes_part};
@@ -28,17 +29,10 @@ pub(crate) fn begins(m: &[u64; ROWS], left: [u64; WORDS], v: usize) -> bool
     !any(before(m, left, v))
 }
 
-// The lowest vertex from start on with which an order of what is left may begin, or the number behind the last vertex.
-pub(crate) fn lowest_beginning(m: &[u64; ROWS], left: [u64; WORDS], start: usize) -> usize
-    requires { start ≤ (suc vertices) }
-    ensures { result ≡ lowest (suc vertices) (λ v. start upto v and may_begin m.now left v) }
+// The lowest vertex from start on with which an order of what is left may begin.
+pub(crate) fn lowest_beginning(m: &[u64; ROWS], left: [u64; WORDS], start: usize) -> Option<usize>
+    requires { start ≤ suc vertices }
+    ensures { LowestOf (λ v. start upto v and may_begin m.now left v) result }
 {
-    let mut v = start;
-    while v <= VERTICES {
-        if begins(m, left, v) {
-            return v;
-        }
-        v += 1;
-    }
-    v
+    (start..VERTICES + 1).find(|v| begins(m, left, *v))
 }

@@ -11,7 +11,7 @@ mod reach;
 mod rows;
 mod sets;
 
-ghost use Rattle.std.specs.Prelude.{◌≡◌, true};
+ghost use Rattle.std.specs.Prelude.{◌≡◌, true, ◌≤◌, take};
 ghost use Rattle.graph.specs.Matrix.{vertices, matrix_order, Sorts, Follows};
 
 pub use lent::{lent_drop, lent_join, lent_row};
@@ -27,28 +27,28 @@ pub const WORDS: usize = 2;
 
 pub const ROWS: usize = VERTICES * WORDS;
 
-// What a list that is shown is: an order of all vertices that take part, or a cycle.
-#[derive(Drop)]
-pub enum Shape {
-    Order,
-    Cycle,
-}
-
-// What `sort` shows: its shape, its members with zeros behind them, and how many members it has.
-#[derive(Drop)]
-pub struct Shown {
-    pub shape: Shape,
+// The members of a list, with zeros behind them, and how many they are.
+#[derive(Drop, Clone, Copy, PartialEq, Eq)]
+pub struct Members {
     pub list: [u16; VERTICES],
     pub count: usize,
 }
 
-// What `next` finds: whether there is a later order, its members with zeros behind them, and how many it has. Where there is none, all
-// of it is 0.
-#[derive(Drop)]
-pub struct Later {
-    pub found: bool,
-    pub list: [u16; VERTICES],
-    pub count: usize,
+impl Members {
+    // The members alone.
+    pub fn as_slice(&self) -> &[u16]
+        requires { self.now.count ≤ vertices }
+        ensures { result.now ≡ take self.now.count self.now.list }
+    {
+        &self.list[..self.count]
+    }
+}
+
+// What `sort` shows: an order of all vertices that take part, or a cycle.
+#[derive(Drop, Clone, Copy, PartialEq, Eq)]
+pub enum Shown {
+    Order(Members),
+    Cycle(Members),
 }
 
 // The first order, or else the first shortest cycle.
@@ -56,35 +56,24 @@ pub fn sort(m: &[u64; ROWS], part: [u64; WORDS]) -> Shown
     ensures { Sorts vertices m.now part result }
 {
     let mut list = [0u16; VERTICES];
-    let p = order::lay_down(&mut list, m, part, 0);
-    let left = p.left;
-    let count = p.count;
-    if sets::any(left) {
+    let placing = order::lay_down(&mut list, m, part, 0);
+    if sets::any(placing.left) {
         let mut ring = [0u16; VERTICES];
-        let members = cycle::cycle(&mut ring, m, left);
-        return Shown {
-            shape: Shape::Cycle,
-            list: ring,
-            count: members,
-        };
+        let count = cycle::cycle(&mut ring, m, placing.left);
+        return Shown::Cycle(Members { list: ring, count });
     }
-    Shown {
-        shape: Shape::Order,
+    Shown::Order(Members {
         list,
-        count,
-    }
+        count: placing.count,
+    })
 }
 
 // The first order that comes later than the given one and keeps every edge.
-pub fn next(m: &[u64; ROWS], part: [u64; WORDS], given: &[u16]) -> Later
+pub fn next(m: &[u64; ROWS], part: [u64; WORDS], given: &[u16]) -> Option<Members>
     requires { matrix_order vertices m.now part given.now ≡ true }
     ensures { Follows vertices m.now part given.now result }
 {
     let mut later = [0u16; VERTICES];
-    let count = onward::follow(&mut later, m, part, given, 0);
-    Later {
-        found: 0 < count,
-        list: later,
-        count,
-    }
+    let count = onward::follow(&mut later, m, part, given, 0)?;
+    Some(Members { list: later, count })
 }

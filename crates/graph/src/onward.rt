@@ -12,49 +12,45 @@ use super::sets::dropped;
 use super::{ROWS, VERTICES, WORDS};
 
 // Lays down, from place i on, the lowest vertex above a that may come first, and then the first order of the others. How many entries then
-// stand, or 0 where there is no such vertex.
+// stand.
 fn higher(
     list: &mut [u16; VERTICES],
     m: &[u64; ROWS],
     left: [u64; WORDS],
     i: usize,
     a: usize,
-) -> usize
+) -> Option<usize>
     requires { (a ≤ vertices) × (i + count (suc vertices) (takes_part vertices left) ≤ vertices) }
     ensures { (w : List ℕ) → matrix_order vertices m.now left (a ∷ w) ≡ true
         → Never (later (matrix_order vertices m.now (unmarked a left)) w)
         → Followed m.now left (a ∷ w) i list.old result list.new }
 {
-    let b = lowest_beginning(m, left, a + 1);
-    if VERTICES < b {
-        return 0;
-    }
+    let b = lowest_beginning(m, left, a + 1)?;
     list[i] = b as u16;
     let p = lay_down(list, m, dropped(left, b), i + 1);
-    p.count
+    Some(p.count)
 }
 
 // Lays down, from place i on, the first order of what is left that comes later than the given entries from there on. How many entries then
-// stand, or 0 where no order is later.
+// stand.
 pub(crate) fn follow(
     list: &mut [u16; VERTICES],
     m: &[u64; ROWS],
     left: [u64; WORDS],
     given: &[u16],
     i: usize,
-) -> usize
+) -> Option<usize>
     requires { (length given.now ≤ vertices) × (i ≤ length given.now)
         × (matrix_order vertices m.now left (drop i given.now) ≡ true) }
     ensures { Followed m.now left (drop i given.now) i list.old result list.new }
 {
-    if given.len() <= i {
-        return 0;
+    let a = *given.get(i)?;
+    let v = usize::from(a);
+    match follow(list, m, dropped(left, v), given, i + 1) {
+        None => higher(list, m, left, i, v),
+        Some(n) => {
+            list[i] = a;
+            Some(n)
+        }
     }
-    let a = given[i] as usize;
-    let n = follow(list, m, dropped(left, a), given, i + 1);
-    if 0 < n {
-        list[i] = a as u16;
-        return n;
-    }
-    higher(list, m, left, i, a)
 }

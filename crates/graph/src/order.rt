@@ -1,18 +1,18 @@
 // Orders: every vertex that takes part once, keeping every edge.
-ghost use Rattle.std.specs.Prelude.{◌≡◌, true, suc, ◌+◌, ◌≤◌};
+ghost use Rattle.std.specs.Prelude.{◌≡◌, List, ℕ, suc, ◌+◌, ◌≤◌};
 ghost use Rattle.words.specs.Tests.{count};
 ghost use Rattle.graph.specs.Matrix.{vertices, takes_part, matrix_order};
-ghost use Rattle.graph.specs.Inner.Peel.{unmarked};
+ghost use Rattle.graph.specs.Inner.Finding.{Turn};
 ghost use Rattle.graph.specs.Inner.Laying.{Places};
 ghost use Rattle.graph.specs.Inner.Waiting.{Settled, nobody};
 
 use super::left::{before, begins};
 use super::rows::{join, row};
-use super::sets::{any, common, dropped, first, with_vertex};
+use super::sets::{EachVertex, any, common, dropped, first, with_vertex};
 use super::{ROWS, VERTICES, WORDS};
 
 // What was placed: how many entries of the list stand, and what is left.
-#[derive(Drop)]
+#[derive(Drop, Clone, Copy)]
 pub(crate) struct Placing {
     pub count: usize,
     pub left: [u64; WORDS],
@@ -23,15 +23,13 @@ pub fn keeps(m: &[u64; ROWS], part: [u64; WORDS], given: &[u16]) -> bool
     ensures { result ≡ matrix_order vertices m.now part given.now }
 {
     let mut left = part;
-    let mut i = 0;
-    while i < given.len() {
-        let v = given[i] as usize;
+    for v in given {
+        let v = usize::from(*v);
         if !begins(m, left, v) {
             return false;
         }
         let rest = dropped(left, v);
         left = rest;
-        i += 1;
     }
     !any(left)
 }
@@ -42,19 +40,19 @@ fn settle(
     left: [u64; WORDS],
     wait: &mut [u64; ROWS],
     ready: [u64; WORDS],
-    todo: [u64; WORDS],
     u: usize,
 ) -> [u64; WORDS]
-    requires { Settled m.now left wait.old ready todo × (takes_part vertices todo u ≡ true) }
-    ensures { Settled m.now left wait.new result (unmarked u todo) }
+    ensures { (todo others : List ℕ) → Settled m.now left wait.old ready todo → Turn todo u others
+        → Settled m.now left wait.new result others }
 {
-    let w = first(before(m, left, u));
-    if VERTICES < w {
-        return with_vertex(ready, u);
+    match first(before(m, left, u)) {
+        None => with_vertex(ready, u),
+        Some(w) => {
+            let one = with_vertex([0u64; WORDS], u);
+            join(wait, one, w);
+            ready
+        }
     }
-    let one = with_vertex([0u64; WORDS], u);
-    join(wait, one, w);
-    ready
 }
 
 // All of those to be settled.
@@ -69,13 +67,9 @@ fn settle_all(
     ensures { Settled m.now left wait.new result nobody }
 {
     let mut now = ready;
-    let mut rest = todo;
-    while any(rest) {
-        let u = first(rest);
-        let then = settle(m, left, wait, now, rest, u);
+    for u in EachVertex(todo) {
+        let then = settle(m, left, wait, now, u);
         now = then;
-        let fewer = dropped(rest, u);
-        rest = fewer;
     }
     now
 }
@@ -98,10 +92,9 @@ pub(crate) fn lay_down(
     let mut todo = part;
     while any(left) {
         let now = settle_all(m, left, &mut wait, ready, todo);
-        if !any(now) {
+        let Some(v) = first(now) else {
             return Placing { count: n, left };
-        }
-        let v = first(now);
+        };
         list[n] = v as u16;
         n += 1;
         let others = dropped(left, v);

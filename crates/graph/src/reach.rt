@@ -18,11 +18,10 @@ pub fn reaches(m: &[u64], from: [u64; WORDS], to: [u64; WORDS]) -> bool
     }
     let mut all = to;
     let mut front = to;
-    while any(front) {
+    while let Some(u) = first(front) {
         if any(common(front, from)) {
             return true;
         }
-        let u = first(front);
         let new = minus(lent_row(m, u), all);
         let more = union(all, new);
         all = more;

@@ -1,8 +1,10 @@
 // Sets of vertices, in two numbers of 64 marks: vertex v is mark v - 1 of the first, or mark v - 65 of the second.
 ghost use Rattle.std.specs.Prelude.{◌≡◌, ℕ, suc, ◌≤◌};
-ghost use Rattle.words.specs.Tests.{◌is◌, ◌upto◌, ◌and◌, ◌or◌, ◌below◌, fails, some, lowest};
+ghost use Rattle.std.specs.Iterator.{at_most};
+ghost use Rattle.words.specs.Tests.{◌is◌, ◌upto◌, ◌and◌, ◌or◌, ◌below◌, fails, some, count};
 ghost use Rattle.graph.specs.Matrix.{vertices, takes_part};
 ghost use Rattle.graph.specs.Inner.Peel.{unmarked};
+ghost use Rattle.graph.specs.Inner.Finding.{LowestOf, GivesLowest};
 
 use super::{VERTICES, WORDS};
 
@@ -58,14 +60,17 @@ pub fn any(those: [u64; WORDS]) -> bool
     bits::any_mark(those[1])
 }
 
-// The lowest vertex of the set, or the number behind the last vertex.
-pub(crate) fn first(those: [u64; WORDS]) -> usize
-    ensures { result ≡ lowest (suc vertices) (takes_part vertices those) }
+// The lowest vertex of the set.
+pub(crate) fn first(those: [u64; WORDS]) -> Option<usize>
+    ensures { LowestOf (takes_part vertices those) result }
 {
     if bits::any_mark(those[0]) {
-        return bits::lowest_mark(those[0]) + 1;
+        return Some(bits::lowest_mark(those[0]) + 1);
     }
-    bits::lowest_mark(those[1]) + 65
+    if bits::any_mark(those[1]) {
+        return Some(bits::lowest_mark(those[1]) + 65);
+    }
+    None
 }
 
 // What is in either.
@@ -97,4 +102,22 @@ pub(crate) fn above(those: [u64; WORDS], s: usize) -> [u64; WORDS]
         return [bits::marks_from(those[0], s), those[1]];
     }
     [0, bits::marks_from(those[1], s - 64)]
+}
+
+// A walk over the vertices of a set, the lowest first: those that are still to come.
+#[derive(Drop)]
+pub(crate) struct EachVertex(pub [u64; WORDS]);
+
+impl Iterator for EachVertex {
+    type Item = usize;
+
+    ghost next_gives = { λ s r t. GivesLowest s.0 r t.0 };
+
+    ghost remaining = { λ s. at_most (count (suc vertices) (takes_part vertices s.0)) };
+
+    fn next(&mut self) -> Option<usize> {
+        let v = first(self.0)?;
+        self.0 = dropped(self.0, v);
+        Some(v)
+    }
 }

@@ -4,7 +4,7 @@
 
 mod make;
 
-use graph::{Later, ROWS, Shape, VERTICES, WORDS};
+use graph::{Members, ROWS, Shown, VERTICES, WORDS};
 use std::io;
 
 // Writes the graph's name.
@@ -22,67 +22,55 @@ fn name(rt: &impl Print, number: u64) -> io::Result<()> {
     }
 }
 
-// Writes the first n entries, and ends the line.
-fn list(rt: &impl Print, w: &[u16; VERTICES], n: usize) -> io::Result<()> {
-    for v in w.iter().take(n) {
+// Writes the members, and ends the line.
+fn list(rt: &impl Print, shown: Members) -> io::Result<()> {
+    for v in shown.list.iter().take(shown.count) {
         print!(rt; " {v}")?;
     }
     println!(rt)
 }
 
 // Writes the next order after the given one, and answers it.
-fn after(rt: &impl Print, m: &[u64; ROWS], part: [u64; WORDS], given: &[u16]) -> io::Result<Later> {
+fn after(
+    rt: &impl Print,
+    m: &[u64; ROWS],
+    part: [u64; WORDS],
+    given: &[u16],
+) -> io::Result<Option<Members>> {
     if !graph::keeps(m, part, given) {
         println!(rt; "not an order")?;
-        return Ok(Later {
-            found: false,
-            list: [0u16; VERTICES],
-            count: 0,
-        });
+        return Ok(None);
     }
     let next = graph::next(m, part, given);
-    if next.found {
-        print!(rt; "next")?;
-        list(rt, &next.list, next.count)?;
-    } else {
-        println!(rt; "next none")?;
+    match next {
+        Some(members) => {
+            print!(rt; "next")?;
+            list(rt, members)?;
+        }
+        None => println!(rt; "next none")?,
     }
     Ok(next)
 }
 
-// The same after the first n entries of given.
+// The same after the members of a list.
 fn later(
     rt: &impl Print,
     m: &[u64; ROWS],
     part: [u64; WORDS],
-    given: [u16; VERTICES],
-    n: usize,
-) -> io::Result<Later> {
-    if VERTICES < n {
-        return Ok(Later {
-            found: false,
-            list: [0u16; VERTICES],
-            count: 0,
-        });
+    given: Members,
+) -> io::Result<Option<Members>> {
+    if VERTICES < given.count {
+        return Ok(None);
     }
-    after(rt, m, part, &given[..n])
+    after(rt, m, part, &given.list[..given.count])
 }
 
 // Writes up to four later orders.
-fn nexts(
-    rt: &impl Print,
-    m: &[u64; ROWS],
-    part: [u64; WORDS],
-    first: [u16; VERTICES],
-    n: usize,
-) -> io::Result<()> {
-    let mut w = first;
-    let mut k = n;
+fn nexts(rt: &impl Print, m: &[u64; ROWS], part: [u64; WORDS], first: Members) -> io::Result<()> {
+    let mut last = Some(first);
     for _ in 0..4 {
-        if 0 < k {
-            let more = later(rt, m, part, w, k)?;
-            w = more.list;
-            k = more.count;
+        if let Some(given) = last {
+            last = later(rt, m, part, given)?;
         }
     }
     Ok(())
@@ -95,16 +83,15 @@ fn show(rt: &impl Print, number: u64) -> io::Result<()> {
     let mut m = [0u64; ROWS];
     make::edges(&mut m, number, marks.state);
     name(rt, number)?;
-    let shown = graph::sort(&m, part);
-    match shown.shape {
-        Shape::Order => {
+    match graph::sort(&m, part) {
+        Shown::Order(order) => {
             print!(rt; " order")?;
-            list(rt, &shown.list, shown.count)?;
-            nexts(rt, &m, part, shown.list, shown.count)
+            list(rt, order)?;
+            nexts(rt, &m, part, order)
         }
-        Shape::Cycle => {
+        Shown::Cycle(cycle) => {
             print!(rt; " cycle")?;
-            list(rt, &shown.list, shown.count)
+            list(rt, cycle)
         }
     }
 }

@@ -4,7 +4,7 @@ ghost use Rattle.std.specs.Prelude.{◌≤◌, ◌<◌};
 use graph::{VERTICES, WORDS};
 
 // A set of vertices, and the state that the next draw starts from.
-#[derive(Drop)]
+#[derive(Drop, Clone, Copy)]
 pub struct Marks {
     pub part: [u64; WORDS],
     pub state: u64,

@@ -8,7 +8,7 @@ use Prim.Native.Nat.{ℕ, suc, ◌<◌}
 use native.Mathlib.Omega.{arith}
 use Rattle.words.specs.Tests.{◌is◌, ◌below◌, ◌and◌, ◌or◌, fails, provided◌then◌else◌, some, lowest}
 use Rattle.words.proofs.Truth.{decide, not_both, to_true, to_false, and→, →and, or→, →or_left, →or_right, fails→, →fails, →not_fails, is→, →is, isnt→, below→, provided_true, provided_false, some→, →some, →none, none→}
-use Rattle.graph.specs.declared.Shape.{Shape}
+use Rattle.graph.specs.Shows.{Shape}
 use Rattle.graph.specs.Shows as graph
 use Rattle.graph.specs.Shows.{Shows}
 use Rattle.graph.proofs.Greedy.{shows_some}

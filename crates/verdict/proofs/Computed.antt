@@ -8,9 +8,7 @@ use native.Mathlib.Omega.{arith}
 use lib.ListN.{length}
 use Rattle.words.specs.First.{later}
 use Rattle.words.specs.Listed.{Listed}
-use Rattle.graph.specs.Shows.{Shows}
-use Rattle.graph.specs.declared.Shape.{Shape}
-use Rattle.graph.specs.declared.Shape.TheVariants.{Order, Cycle}
+use Rattle.graph.specs.Shows.{Shape, Order, Cycle, Shows}
 use Rattle.verdict.specs.Log.{committed}
 use Rattle.verdict.specs.Clean.{is_clean, cleanness}
 use Rattle.verdict.specs.Reason.{with_reasons}

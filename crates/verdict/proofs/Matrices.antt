@@ -9,9 +9,8 @@ use lib.ListN.{length, replicate, length-replicate}
 use Rattle.words.specs.Tests.{◌is◌, ◌upto◌, ◌and◌, ◌or◌}
 use Rattle.words.specs.Lists.{zeros}
 use Rattle.graph.specs.Order.{is_order}
-use Rattle.graph.specs.Matrix.{matrix_order, row_words, takes_part, joined, in_row, Joins, Sorts}
-use Rattle.graph.specs.Shows.{Shows}
-use Rattle.graph.specs.declared.Shown.{Shown}
+use Rattle.graph.specs.Matrix.{matrix_order, row_words, takes_part, joined, in_row, Joins}
+use Rattle.graph.specs.Shows.{Shape, Shows}
 use Rattle.words.proofs.Truth.{not_both, same_test, and→, →and, and_true_right, or→, →or_left, →fails, fails→, is→, isnt→, →is, →isnt, →upto}
 use Rattle.graph.proofs.Marks.{part→, joined→, in_row_of, joined_by_row}
 use Rattle.graph.proofs.TwoWords.{no_member}
@@ -136,8 +135,8 @@ module _ {log m part : List ℕ} {edge : ℕ → ℕ → Bool} (marks : Committe
           joined_by_row m part a b n p q (drawn.mark a b (n, u.0, u.1, v.0, v.1) ∙ h)
 
   -- what `sort` gives is what is shown of the graph
-  pub shown_of : {s : Shown} (t : Sorts transactions m part s) → Shows (suc transactions) (committed log) edge s.shape t.members
-  shown_of t = rw (same_nodes, fun_ext (λ a. fun_ext (same_joined a))) at t.right
+  pub shown_of : {s : Shape} {w : List ℕ} → Shows (suc transactions) (takes_part transactions part) (joined transactions m part) s w → Shows (suc transactions) (committed log) edge s w
+  shown_of h = rw (same_nodes, fun_ext (λ a. fun_ext (same_joined a))) at h
 
   -- the orders of the matrix are those of the graph
   pub order_of : (w : List ℕ) → matrix_order transactions m part w ≡ is_order (suc transactions) (committed log) edge w

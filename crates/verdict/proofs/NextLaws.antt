@@ -2,14 +2,11 @@
 use mathlib.Core.Path.{◌≡◌, sym, ap, subst, fun_ext, ◌∙◌}
 use mathlib.Core.Bool.{Bool, true, false}
 use mathlib.Core.List.{List}
-use mathlib.Core.Option.{Option, some as just}
 use Prim.Native.Nat.{ℕ, suc}
-use lib.ListN.{take}
 use Rattle.words.specs.Lists.{zeros}
 use Rattle.words.specs.First.{dictionary, First, Never, later}
-use Rattle.graph.specs.Matrix.{Earliest, earliest, not_any, matrix_order, is_some, later_members, Follows}
+use Rattle.graph.specs.Matrix.{matrix_order}
 use Rattle.graph.specs.Order.{is_order}
-use Rattle.graph.specs.declared.Later.{Later}
 use Rattle.words.proofs.Truth.{same_test, not_both, and→, →and}
 use Rattle.verdict.specs.Limits.{transactions, witness_buffer}
 use Rattle.verdict.specs.Log.{committed}
@@ -60,20 +57,9 @@ module _ (log : List ℕ) (well : log_refusal log ≡ Passed) (clean : is_clean 
       next_of (none_later n) = next_none (subst (λ (p : List ℕ → Bool). Never p) (same_later v) n)
 
 -- what the graph finds, as an answer
-module _ {m part v : List ℕ} {r : Later} (f : Follows transactions m part v r) where
-  pub brings_order : r.found ≡ true → (later_members f.earliest ≡ take r.count r.list) → {found : Witnessed} → found ≡ by_value (order (take r.count r.list)) → Brings m part v found
-  unfolding is_some later_members
-  brings_order h same e = held (order (take r.count r.list)) (go f.earliest f.right f.told same) e
-    where
-      go : (o : Option (List ℕ)) → Earliest (later (matrix_order transactions m part) v) o → r.found ≡ is_some o → later_members o ≡ take r.count r.list
-          → LaterOrder m part v (order (take r.count r.list))
-      go (just w) (earliest g) t s = rw (← s) (later_order g)
-      go Option.none g t s = absurd (not_both h t)
+module _ {m part v : List ℕ} where
+  pub brings_order : {w u : List ℕ} → First dictionary (later (matrix_order transactions m part) v) w → u ≡ w → {found : Witnessed} → found ≡ by_value (order u) → Brings m part v found
+  brings_order {w} f same e = held (order w) (later_order f) (rw same at e)
 
-  pub brings_none : r.found ≡ false → {found : Witnessed} → (found.answer ≡ None) × (found.list ≡ zeros witness_buffer) → Brings m part v found
-  unfolding is_some
-  brings_none h = holds_none (go f.earliest f.right f.told)
-    where
-      go : (o : Option (List ℕ)) → Earliest (later (matrix_order transactions m part) v) o → r.found ≡ is_some o → LaterOrder m part v Outcome.none
-      go (just w) g t = absurd (not_both t h)
-      go Option.none (not_any g) t = none_later g
+  pub brings_none : Never (later (matrix_order transactions m part) v) → {found : Witnessed} → (found.answer ≡ None) × (found.list ≡ zeros witness_buffer) → Brings m part v found
+  brings_none n = holds_none (none_later n)

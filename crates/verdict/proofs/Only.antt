@@ -27,7 +27,7 @@ use Rattle.verdict.specs.Replay.{explains_loosely}
 use Rattle.verdict.specs.Exact.{Exact, exact, exact_none, exact_unclean}
 use Rattle.verdict.specs.Next.{Next, next, next_none}
 use Rattle.verdict.specs.Call.{Call, turned_away, answered, CleanCall, SnapshotCall, WitnessCall, ConflictCall, VersionCall, ExactCall, NextCall}
-use Rattle.graph.specs.declared.Shape.TheVariants as shape
+use Rattle.graph.specs.Shows as shape
 use Rattle.words.proofs.Truth.{and→}
 use Rattle.words.proofs.Dictionary.{dictionary_same, first_one}
 use Rattle.graph.proofs.Only.{never_first, shows_one}

@@ -6,10 +6,8 @@ use Prim.Native.Nat.{ℕ, suc, ◌<◌}
 use lib.ListN.{length, get_or}
 use Rattle.words.proofs.Truth.{and→}
 use Rattle.graph.specs.Cycle.{is_cycle}
-use Rattle.graph.specs.Shows.{Shows}
+use Rattle.graph.specs.Shows.{Shape, Shows}
 use Rattle.graph.specs.Shows as shows
-use Rattle.graph.specs.declared.Shape.{Shape}
-use Rattle.graph.specs.declared.Shape.TheVariants as shapes
 use Rattle.verdict.specs.Limits.{transactions}
 use Rattle.verdict.specs.Log.{committed}
 use Rattle.verdict.specs.Reason.{with_reasons}
@@ -23,14 +21,14 @@ use Rattle.verdict.proofs.Matrices.{Between}
 use Rattle.verdict.proofs.LeastReasons.{edge_at, cycle_ring, numbered_reasons}
 
 module _ {log : List ℕ} {edge : ℕ → ℕ → Bool} {w : List ℕ} where
-  pub shown_order : {on : ℕ → ℕ → ℕ → ℕ → Bool} {s : Shape} → Shows (suc transactions) (committed log) edge s w → s ≡ shapes.Order → {v : List ℕ} → v ≡ w → OfGraph transactions log edge on (order v)
-  shown_order h e f = rw f (shows_order (rw e at h))
+  pub shown_order : {on : ℕ → ℕ → ℕ → ℕ → Bool} → Shows (suc transactions) (committed log) edge Shape.Order w → {v : List ℕ} → v ≡ w → OfGraph transactions log edge on (order v)
+  shown_order h f = rw f (shows_order h)
 
-  pub shown_cycle : {on : ℕ → ℕ → ℕ → ℕ → Bool} {s : Shape} → Shows (suc transactions) (committed log) edge s w → s ≡ shapes.Cycle → {v : List ℕ} → v ≡ w
+  pub shown_cycle : {on : ℕ → ℕ → ℕ → ℕ → Bool} → Shows (suc transactions) (committed log) edge Shape.Cycle w → {v : List ℕ} → v ≡ w
       → (is_cycle edge v ≡ true) × OfGraph transactions log edge on (cycle (with_reasons on v))
-  shown_cycle h e f = rw f (go (rw e at h), shows_cycle (rw e at h))
+  shown_cycle h f = rw f (go h, shows_cycle h)
     where
-      go : Shows (suc transactions) (committed log) edge shapes.Cycle w → is_cycle edge w ≡ true
+      go : Shows (suc transactions) (committed log) edge Shape.Cycle w → is_cycle edge w ≡ true
       go (shows.shows_cycle f) = f.one
 
 -- A CYCLE OF COMMITTED TRANSACTIONS

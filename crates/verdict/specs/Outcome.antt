@@ -1,7 +1,6 @@
 -- What a verdict with a witness finds, and "next": order, cycle, none, or unclean with its fault; and how the code says it.
 use Rattle.std.specs.Prelude.{Bool, List, [], ℕ, suc, length}
-use Rattle.graph.specs.Shows.{Shows}
-use Rattle.graph.specs.declared.Shape.{Shape}
+use Rattle.graph.specs.Shows.{Shape, Shows}
 use Rattle.verdict.specs.Answers.{Fault, Answer, Order, Cycle, None}
 use Rattle.verdict.specs.Log.{committed}
 use Rattle.verdict.specs.Reason.{Entry, with_reasons, without_reasons}

@@ -99,13 +99,9 @@ pub(crate) fn judge_conflict(log: &[u16], part: [u64; graph::WORDS]) -> Witnesse
 {
     let mut matrix = [0u64; graph::ROWS];
     draw(log, &mut matrix, &part);
-    let found = graph::sort(&matrix, part);
-    let shape = found.shape;
-    let list = found.list;
-    let count = found.count;
-    match shape {
-        graph::Shape::Order => an_order(&list[..count]),
-        graph::Shape::Cycle => conflict_cycle(log, &part, &list[..count]),
+    match graph::sort(&matrix, part) {
+        graph::Shown::Order(order) => an_order(order.as_slice()),
+        graph::Shown::Cycle(ring) => conflict_cycle(log, &part, ring.as_slice()),
     }
 }
 

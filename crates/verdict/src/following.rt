@@ -60,14 +60,10 @@ fn bring(matrix: &[u64; graph::ROWS], part: [u64; graph::WORDS], order: &[u16]) 
     requires { matrix_order transactions matrix.now part order.now ≡ true }
     ensures { Brings matrix.now part order.now result }
 {
-    let later = graph::next(matrix, part, order);
-    let found = later.found;
-    let list = later.list;
-    let count = later.count;
-    if found {
-        return an_order(&list[..count]);
+    match graph::next(matrix, part, order) {
+        Some(later) => an_order(later.as_slice()),
+        None => without_members(Answer::None),
     }
-    without_members(Answer::None)
 }
 
 // The next order in the graph of a clean log, or 14 where the one handed in is not on the list.

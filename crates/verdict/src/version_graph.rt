@@ -100,13 +100,9 @@ pub(crate) fn judge_version(
     }
     let mut matrix = [0u64; graph::ROWS];
     draw(log, &mut matrix, &part, next);
-    let found = graph::sort(&matrix, part);
-    let shape = found.shape;
-    let list = found.list;
-    let count = found.count;
-    match shape {
-        graph::Shape::Order => an_order(&list[..count]),
-        graph::Shape::Cycle => version_cycle(log, &part, next, &list[..count]),
+    match graph::sort(&matrix, part) {
+        graph::Shown::Order(order) => an_order(order.as_slice()),
+        graph::Shown::Cycle(ring) => version_cycle(log, &part, next, ring.as_slice()),
     }
 }
 

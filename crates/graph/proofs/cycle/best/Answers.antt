@@ -1,34 +1,26 @@
 -- `best` meets its contract.
+use mathlib.Core.Path.{refl}
 use native.Mathlib.Omega.{arith}
-use Rattle.graph.proofs.Ring.{least_none, least_lower, least_same, least_all}
+use Rattle.graph.proofs.Ring.{least_none, so_far_bound, so_far_lower, so_far_same, so_far_all}
+use Rattle.graph.proofs.cycle.best.Goals.{in-Some, in_default}
 use Rattle.graph.proofs.cycle.best.Goals as goal
-use Rattle.graph.proofs.cycle.best.Goals.{then-k-len, else-k-len}
 
 pub loop-s-init : goal.loop-s-init
-loop-s-init c = (omega arith, omega arith, c.requires, least_none _ 0)
+loop-s-init c = (c.requires, (refl, least_none _ 0))
 
-pub around-k-requires : goal.around-k-requires
-around-k-requires c =
-    (c.loop-s.invariant.2, omega arith, omega arith, c.loop-s.invariant.3.bound, c.rising-rises.ensures)
-
-pub overflow_add-s : goal.overflow_add-s
-overflow_add-s c = omega arith
-
-pub loop-s-smaller : goal.loop-s-smaller
-loop-s-smaller c = omega arith
+pub around-requires : goal.around-requires
+around-requires c =
+    (c.loop-s.invariant.0, omega arith, omega arith, so_far_bound _ _ _ _ c.loop-s.invariant.1, c.rising-rises.ensures)
 
 pub loop-s-preserved : goal.loop-s-preserved
 loop-s-preserved c =
-    let at = c.loop-s in
-    let found = c.around-k.ensures in (
-      omega arith,
-      omega arith,
-      found.size,
-      elim c.if-k-len.branch [
-        | then-k-len w ↦ rw (w.len-is, w.start-is) (least_lower at.invariant.3 _ found.home (omega arith) w.if-k-len.true)
-        | else-k-len w ↦ rw (w.len-is, w.start-is) (least_same at.invariant.3 _ found.home w.if-k-len.false)
+    let before = c.loop-s.invariant.1 in (
+      c.around.ensures.size,
+      elim c.match-around.branch [
+        | in-Some w ↦ rw (w.found-is, w.limit-is) (refl, so_far_lower _ _ _ _ before (omega arith) _ _ w.in-Some.ensures.way)
+        | in_default w ↦ rw (w.found-is, w.limit-is) (so_far_same _ _ _ _ before w.in_default.ensures.way)
       ],
     )
 
 pub returns : goal.returns
-returns c = let at = c.loop-s in (at.invariant.2, least_all at.invariant.3 (omega arith))
+returns c = (c.loop-s.invariant.0, so_far_all _ _ _ _ c.loop-s.invariant.1 (omega arith))

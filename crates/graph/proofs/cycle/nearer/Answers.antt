@@ -1,37 +1,15 @@
 -- `nearer` meets its contract.
-use mathlib.Core.Path.{◌≡◌, sym, ◌∙◌}
-use mathlib.Core.Bool.{true}
-use Rattle.graph.specs.Matrix.{takes_part}
-use Rattle.graph.proofs.Marks.{part→}
-use Rattle.graph.proofs.Members.{turn, fewer, sought_none, sought_here, sought_on, sought_all}
-use borrow.Author.Rules.{rules}
+use mathlib.Core.Path.{sym, ◌∙◌}
+use Rattle.graph.proofs.SetWalks.{sought_here, sought_on, sought_all}
 use Rattle.graph.proofs.cycle.nearer.Goals as goal
-
--- it is one of the rest
-this : (c : goal.After-first-u) → takes_part 128 c.loop-part.rest c.first-u.result ≡ true
-this c = turn _ _ (sym c.any.ensures ∙ c.loop-part-test.true) c.first-u.ensures
-
-pub loop-part-init : goal.loop-part-init
-loop-part-init c = sought_none _ _ (search rules)
 
 pub returns-then-takes_part : goal.returns-then-takes_part
 returns-then-takes_part c =
-    sought_here c.loop-part.invariant _ (sym c.any.ensures ∙ c.loop-part-test.true) c.first-u.ensures
-    (sym (c.before-in-loop-part.ensures _) ∙ sym c.takes_part.ensures ∙ c.if-takes_part.true)
+    sought_here c.loop-u.invariant c.in-Some.ensures.steps (sym (c.before-in-loop-u.ensures _) ∙ sym c.takes_part.ensures ∙ c.if-takes_part.true)
 
-pub dropped-fewer-requires : goal.dropped-fewer-requires
-dropped-fewer-requires c = let p = part→ 128 _ _ (this c.before.before.before) in (p.low, p.high)
-
-pub loop-part-smaller : goal.loop-part-smaller
-loop-part-smaller c =
-    rw c.dropped-fewer.ensures (fewer _ _ c.loop-part.invariant.two (this c.before.before.before.before))
-
-pub loop-part-preserved : goal.loop-part-preserved
-loop-part-preserved c =
-    rw c.dropped-fewer.ensures (sought_on c.loop-part.invariant _ (this c.before.before.before.before) (sym (c.before-in-loop-part.ensures _) ∙ sym c.takes_part.ensures ∙ c.if-takes_part.false))
+pub loop-u-preserved : goal.loop-u-preserved
+loop-u-preserved c =
+    sought_on c.loop-u.invariant c.in-Some.ensures.steps (sym (c.before-in-loop-u.ensures _) ∙ sym c.takes_part.ensures ∙ c.if-takes_part.false)
 
 pub returns : goal.returns
-returns c = sought_all c.loop-part.invariant (sym c.any.ensures ∙ c.loop-part-test.false)
-
-pub before-requires : goal.before-requires
-before-requires c = search rules
+returns c = sought_all c.loop-u.invariant c.in-None.ensures.steps

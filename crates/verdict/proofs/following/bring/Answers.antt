@@ -1,34 +1,20 @@
 -- `bring` meets its contract.
-use mathlib.Core.Path.{sym}
-use native.Mathlib.Omega.{arith}
+use mathlib.Core.Path.{◌∙◌}
 use borrow.Author.Rules.{rules}
-use Rattle.graph.specs.Matrix.{later_members}
 use Rattle.verdict.proofs.Threes.{Front, front_of}
 use Rattle.verdict.proofs.NextLaws.{brings_order, brings_none}
-use Rattle.verdict.proofs.following.bring.Lts
-use Rattle.verdict.proofs.following.bring.Tie as tie
-use Rattle.verdict.proofs.following.bring.Reads
+use Rattle.verdict.proofs.following.bring.Goals.{In-Some}
 use Rattle.verdict.proofs.following.bring.Goals as goal
 
--- places on the way, by the names that the toolchain gives them
-abbrev After-next-later : Type 0
-After-next-later = Lts.After-next tie.the-claims Reads.Pre Reads.Post
-
 -- the members of what was brought stand first in its list
-front : (c : After-next-later) → Front c.next-later.result.list c.next-later.result.count (later_members c.next-later.ensures.earliest)
-front c = let f = c.next-later.ensures in front_of f.listed (search rules) f.counted
+front : (c : In-Some) → Front c.in-Some.later.list c.in-Some.later.count c.in-Some.ensures.members
+front c = let f = c.in-Some.ensures in front_of f.listed (search rules) f.counted
 
-pub slice_bounds-list-end : goal.slice_bounds-list-end
-slice_bounds-list-end c = (front c.before.before.before).room
+pub as_slice-requires : goal.as_slice-requires
+as_slice-requires c = (front (goal.at.as_slice-requires c).In-Some).few
 
-pub slice_bounds-an_order-end : goal.slice_bounds-an_order-end
-slice_bounds-an_order-end c = (front c.before.before.before.before).slice
+pub returns-in-Some : goal.returns-in-Some
+returns-in-Some c = brings_order c.in-Some.ensures.right (c.as_slice.ensures ∙ (front (goal.at.returns-in-Some c).In-Some).same) c.an_order.ensures
 
-pub an_order-requires : goal.an_order-requires
-an_order-requires c = let f = front c.before.before.before.before in omega (arith, f.slice, f.few)
-
-pub returns-then-found : goal.returns-then-found
-returns-then-found c = brings_order c.next-later.ensures c.if-found.true (sym (front c.before.before.before.before.before).same) c.an_order.ensures
-
-pub returns : goal.returns
-returns c = brings_none c.next-later.ensures c.if-found.false c.without_members.ensures
+pub returns-in-None : goal.returns-in-None
+returns-in-None c = brings_none c.in-None.ensures c.without_members.ensures

@@ -5,29 +5,46 @@ use mathlib.Core.Logic.{⊎_elim}
 use mathlib.Core.List.{List}
 use Prim.Native.Nat.{ℕ, ◌+◌, ◌≤◌, ◌<◌}
 use native.Mathlib.Omega.{arith}
+use Rattle.std.specs.Prelude.{Option, Some, None, IsSome}
 use lib.ListN.{length, replicate}
 use Rattle.words.specs.Tests.{◌is◌, ◌below◌, ◌upto◌, ◌and◌, ◌or◌, some, count, lowest}
-use Rattle.words.proofs.Truth.{decide, not_both, to_false, same_test, and→, →and, and_no_left, or→, →or_left, →or_right, or_false, or_no, is→, isnt→, below→, →below, upto→, →upto, some→, →some, none→, →none, some_next, lowest_is, lowest_at, lowest_none, below_lowest}
+use Rattle.words.proofs.Truth.{decide, not_both, to_false, same_test, and→, →and, and_no_left, or→, →or_left, →or_right, or_false, or_no, is→, isnt→, below→, →below, upto→, →upto, some→, →some, none→, →none, some_next, lowest_is, lowest_at, lowest_none, lowest_some, lowest_passes, below_lowest}
 use Rattle.words.proofs.From.{lowest_same}
 use Rattle.graph.specs.Matrix.{takes_part}
 use Rattle.graph.specs.Inner.Peel.{without, unmarked}
+use Rattle.graph.specs.Inner.Finding.{IsLowest, LowestOf, Turn}
 use Rattle.graph.proofs.Peel.{without→, →without}
 use Rattle.graph.proofs.Marks.{part→, size_unmarked, parts_without}
 use Rattle.graph.proofs.Sized.{part_less}
 use Rattle.graph.proofs.TwoWords.{no_member}
 
--- the one whose turn it is
-pub turn : (rest : List ℕ) (u : ℕ) → some 129 (takes_part 128 rest) ≡ true → u ≡ lowest 129 (takes_part 128 rest) → takes_part 128 rest u ≡ true
-turn rest u h e = rw e (lowest_is (takes_part 128 rest) h).1
+-- one that is taken away is there no more, and the others are as before
+pub dropped_out : (rest : List ℕ) (u : ℕ) → length rest ≡ 2 → takes_part 128 rest u ≡ true → (t : ℕ) → takes_part 128 (unmarked u rest) t ≡ without u (takes_part 128 rest) t
+dropped_out rest u two h t = let p = part→ 128 rest u h in ap (λ (f : ℕ → Bool). f t) (parts_without 128 rest rest (omega arith) u p.low p.high)
 
-module _ (rest : List ℕ) (u : ℕ) (two : length rest ≡ 2) (its_turn : takes_part 128 rest u ≡ true) where
-  -- it is there no more, and the others are as before
-  pub dropped_out : (t : ℕ) → takes_part 128 (unmarked u rest) t ≡ without u (takes_part 128 rest) t
-  dropped_out t = let p = part→ 128 rest u its_turn in ap (λ (f : ℕ → Bool). f t) (parts_without 128 rest rest (omega arith) u p.low p.high)
+-- the lowest that passes
+pub lowest_of : (p : ℕ → Bool) (v : ℕ) → some 129 p ≡ true → v ≡ lowest 129 p → IsLowest p v
+lowest_of p v h e = let r = lowest_is p h in record { high = omega (arith, r.0); one = rw e r.1; first = e }
+
+-- one is found where one passes
+pub found_some : (p : ℕ → Bool) (r : Option ℕ) → LowestOf p r → some 129 p ≡ true → IsSome r
+found_some p None h s = absurd (not_both s h)
+found_some p (Some v) h s = refl
+
+-- the one whose turn it is
+pub turn_of : {left : List ℕ} {v : ℕ} {others : List ℕ} → IsLowest (takes_part 128 left) v → others ≡ unmarked v left → Turn left v others
+turn_of {left} {v} f e = let p = part→ 128 left v f.one in record { low = p.low; high = p.high; one = f.one; first = f.first; after = e }
+
+module _ {left : List ℕ} {v : ℕ} {others : List ℕ} (two : length left ≡ 2) (t : Turn left v others) where
+  turn_out : (u : ℕ) → takes_part 128 others u ≡ without v (takes_part 128 left) u
+  turn_out u = rw t.after (dropped_out left v two t.one u)
+
+  turn_two : length others ≡ 2
+  turn_two = rw t.after (size_unmarked v left ∙ two)
 
   -- the walk ends: fewer are left
-  pub fewer : count 129 (takes_part 128 (unmarked u rest)) < count 129 (takes_part 128 rest)
-  fewer = omega (arith, part_less 128 rest rest (omega arith) u its_turn)
+  pub turn_fewer : count 129 (takes_part 128 others) < count 129 (takes_part 128 left)
+  turn_fewer = rw t.after (omega (arith, part_less 128 left left (omega arith) v t.one))
 
 -- what the edges to the front come from is gathered, but for those to the rest of it
 pub record Gathered (edge : ℕ → ℕ → Bool) (front rest all : List ℕ) : Type 0 where
@@ -38,22 +55,22 @@ pub gathered_none : (edge : ℕ → ℕ → Bool) (front : List ℕ) → length 
 gathered_none edge front two = record { two = two; so_far = λ t. or_false (no_member 2 t) }
 
 module _ {edge : ℕ → ℕ → Bool} {front rest all : List ℕ} (g : Gathered edge front rest all) where
-  pub gathered_more : (u : ℕ) → takes_part 128 rest u ≡ true → (row more : List ℕ) → ((t : ℕ) → takes_part 128 row t ≡ edge t u) → ((t : ℕ) → takes_part 128 more t ≡ (takes_part 128 all t or takes_part 128 row t))
-      → Gathered edge front (unmarked u rest) more
-  gathered_more u its_turn row more e m = record { two = size_unmarked u rest ∙ g.two; so_far = λ t. same_test (there t) (back t) ∙ g.so_far t }
+  pub gathered_more : {u : ℕ} {others : List ℕ} → Turn rest u others → (row more : List ℕ) → ((t : ℕ) → takes_part 128 row t ≡ edge t u) → ((t : ℕ) → takes_part 128 more t ≡ (takes_part 128 all t or takes_part 128 row t))
+      → Gathered edge front others more
+  gathered_more {u} {others} turn row more e m = record { two = turn_two g.two turn; so_far = λ t. same_test (there t) (back t) ∙ g.so_far t }
     where
-      out : (t : ℕ) → takes_part 128 (unmarked u rest) t ≡ without u (takes_part 128 rest) t
-      out = dropped_out rest u g.two its_turn
+      out : (t : ℕ) → takes_part 128 others t ≡ without u (takes_part 128 rest) t
+      out = turn_out g.two turn
 
       bound : u < 129
-      bound = let z : u ≤ 128 = (part→ 128 rest u its_turn).high in omega arith
+      bound = omega (arith, turn.high)
 
-      there : (t : ℕ) → (takes_part 128 more t or some 129 (λ v. takes_part 128 (unmarked u rest) v and edge t v)) ≡ true → (takes_part 128 all t or some 129 (λ v. takes_part 128 rest v and edge t v)) ≡ true
+      there : (t : ℕ) → (takes_part 128 more t or some 129 (λ v. takes_part 128 others v and edge t v)) ≡ true → (takes_part 128 all t or some 129 (λ v. takes_part 128 rest v and edge t v)) ≡ true
       there t h =
-          ⊎_elim (λ (q : takes_part 128 more t ≡ true). ⊎_elim (λ (k : takes_part 128 all t ≡ true). →or_left _ k) (λ (k : takes_part 128 row t ≡ true). →or_right _ (→some _ u bound (→and its_turn (sym (e t) ∙ k)))) (or→ (sym (m t) ∙ q)))
-          (λ (q : some 129 (λ v. takes_part 128 (unmarked u rest) v and edge t v) ≡ true). let r = some→ q in let k = and→ r.2 in →or_right _ (→some _ r.0 r.1 (→and (without→ (takes_part 128 rest) (sym (out r.0) ∙ k.0)).0 k.1))) (or→ h)
+          ⊎_elim (λ (q : takes_part 128 more t ≡ true). ⊎_elim (λ (k : takes_part 128 all t ≡ true). →or_left _ k) (λ (k : takes_part 128 row t ≡ true). →or_right _ (→some _ u bound (→and turn.one (sym (e t) ∙ k)))) (or→ (sym (m t) ∙ q)))
+          (λ (q : some 129 (λ v. takes_part 128 others v and edge t v) ≡ true). let r = some→ q in let k = and→ r.2 in →or_right _ (→some _ r.0 r.1 (→and (without→ (takes_part 128 rest) (sym (out r.0) ∙ k.0)).0 k.1))) (or→ h)
 
-      back : (t : ℕ) → (takes_part 128 all t or some 129 (λ v. takes_part 128 rest v and edge t v)) ≡ true → (takes_part 128 more t or some 129 (λ v. takes_part 128 (unmarked u rest) v and edge t v)) ≡ true
+      back : (t : ℕ) → (takes_part 128 all t or some 129 (λ v. takes_part 128 rest v and edge t v)) ≡ true → (takes_part 128 more t or some 129 (λ v. takes_part 128 others v and edge t v)) ≡ true
       back t h =
           ⊎_elim (λ (q : takes_part 128 all t ≡ true). →or_left _ (m t ∙ →or_left _ q))
           (λ (q : some 129 (λ v. takes_part 128 rest v and edge t v) ≡ true). let r = some→ q in let k = and→ r.2 in
@@ -72,27 +89,27 @@ pub sought_none : (passes : ℕ → Bool) (layer : List ℕ) → length layer �
 sought_none passes layer two = record { two = two; same = refl }
 
 module _ {passes : ℕ → Bool} {layer rest : List ℕ} (s : Sought passes layer rest) where
-  pub sought_here : (u : ℕ) → some 129 (takes_part 128 rest) ≡ true → u ≡ lowest 129 (takes_part 128 rest) → passes u ≡ true → u ≡ lowest 129 (λ v. takes_part 128 layer v and passes v)
-  sought_here u h e q =
-      let t = turn rest u h e in
-      let z : u ≤ 128 = (part→ 128 rest u t).high in
-      sym (lowest_at (λ v. takes_part 128 rest v and passes v) u (omega arith) (→and t q) (λ (j : ℕ) (l : j < u). and_no_left _ (below_lowest 129 (takes_part 128 rest) j (rw e at l)))) ∙ s.same
+  module _ {u : ℕ} {others : List ℕ} (turn : Turn rest u others) where
+    pub sought_here : passes u ≡ true → IsLowest (λ v. takes_part 128 layer v and passes v) u
+    sought_here q =
+        let e = sym (lowest_at (λ v. takes_part 128 rest v and passes v) u (omega (arith, turn.high)) (→and turn.one q) (λ (j : ℕ) (l : j < u). and_no_left _ (below_lowest 129 (takes_part 128 rest) j (rw turn.first at l)))) ∙ s.same in
+        lowest_of _ u (lowest_passes {n = 129} _ (omega (arith, e, turn.high))) e
 
-  pub sought_on : (u : ℕ) → takes_part 128 rest u ≡ true → passes u ≡ false → Sought passes layer (unmarked u rest)
-  sought_on u its_turn q =
-      record {
-        two = size_unmarked u rest ∙ s.two;
-        same = lowest_same 129 (λ v. takes_part 128 (unmarked u rest) v and passes v) (λ v. takes_part 128 rest v and passes v) (λ v _. each v) ∙ s.same;
-      }
-    where
-      each : (v : ℕ) → (takes_part 128 (unmarked u rest) v and passes v) ≡ (takes_part 128 rest v and passes v)
-      each v =
-          let out = dropped_out rest u s.two its_turn v in
-          same_test (λ h. let r = and→ h in →and (without→ (takes_part 128 rest) (sym out ∙ r.0)).0 r.1)
-          (λ h. let r = and→ h in →and (out ∙ →without (takes_part 128 rest) r.0 (λ (e : v ≡ u). not_both (rw e at r.1) q)) r.1)
+    pub sought_on : passes u ≡ false → Sought passes layer others
+    sought_on q =
+        record {
+          two = turn_two s.two turn;
+          same = lowest_same 129 (λ v. takes_part 128 others v and passes v) (λ v. takes_part 128 rest v and passes v) (λ v _. each v) ∙ s.same;
+        }
+      where
+        each : (v : ℕ) → (takes_part 128 others v and passes v) ≡ (takes_part 128 rest v and passes v)
+        each v =
+            let out = turn_out s.two turn v in
+            same_test (λ h. let r = and→ h in →and (without→ (takes_part 128 rest) (sym out ∙ r.0)).0 r.1)
+            (λ h. let r = and→ h in →and (out ∙ →without (takes_part 128 rest) r.0 (λ (e : v ≡ u). not_both (rw e at r.1) q)) r.1)
 
-  pub sought_all : some 129 (takes_part 128 rest) ≡ false → 129 ≡ lowest 129 (λ u. takes_part 128 layer u and passes u)
-  sought_all none = sym (lowest_none (λ u. takes_part 128 rest u and passes u) (→none _ (λ u h. and_no_left _ (none→ _ none u h)))) ∙ s.same
+  pub sought_all : some 129 (takes_part 128 rest) ≡ false → some 129 (λ u. takes_part 128 layer u and passes u) ≡ false
+  sought_all none = lowest_some _ (omega (arith, lowest_none (λ u. takes_part 128 rest u and passes u) (→none _ (λ u h. and_no_left _ (none→ _ none u h))), s.same))
 
 -- of the vertices below u, those from which an edge leads to a higher one that is also below u
 pub record Rises (edge : ℕ → ℕ → Bool) (u : ℕ) (lower all : List ℕ) : Type 0 where
