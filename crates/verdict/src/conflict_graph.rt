@@ -83,12 +83,9 @@ pub(crate) fn draw(log: &[u16], matrix: &mut [u64; graph::ROWS], part: &[u64; gr
     requires { (log_refusal log.now ≡ Passed) × Committed log.now part.now × Drawn no_edge matrix.old }
     ensures { Drawn (conflict_edge log.now) matrix.new }
 {
-    let n = log.len() / 4;
     let mut touched = [0u64; graph::ROWS];
-    let mut i = 0;
-    while i < n {
+    for i in 0..log.len() / 4 {
         mark_step(log, matrix, &mut touched, part, i);
-        i += 1;
     }
 }
 

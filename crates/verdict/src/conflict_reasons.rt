@@ -70,12 +70,10 @@ fn conflict_reasons(
         × ((i : ℕ) → i < length members.now → committed log.now (get_or members.now i 0) ≡ true) }
     ensures { Best members.now (conflict_on log.now) result }
 {
-    let n = log.len() / 4;
     let before = before_each(members);
     let mut touched = [0u64; graph::ROWS];
     let mut best = [NO_REASON; Transaction::TABLE];
-    let mut j = 0;
-    while j < n {
+    for j in 0..log.len() / 4 {
         let step = step_at(log, j);
         if takes_part(part, step.tx) {
             offer_earlier(
@@ -88,7 +86,6 @@ fn conflict_reasons(
             let one = graph::with_vertex([0u64; graph::WORDS], index(step.tx));
             graph::join(&mut touched, one, touched_row(step.kind, step.obj));
         }
-        j += 1;
     }
     best
 }

@@ -31,13 +31,11 @@ pub(crate) fn an_order(members: &[u16]) -> Witnessed
     ensures { result ≡ by_value (order members.now) }
 {
     let mut list = [0u16; Transaction::WITNESS];
-    let mut i = 0;
-    while i < members.len() {
+    for i in 0..members.len() {
         put_entry(&mut list, i, members[i], 0, 0);
-        i += 1;
     }
     Witnessed {
-        answer: Answer::Order(i),
+        answer: Answer::Order(members.len()),
         list,
     }
 }
@@ -48,15 +46,13 @@ pub(crate) fn a_cycle(members: &[u16], reasons: &[u16; Transaction::TABLE]) -> W
     ensures { result ≡ by_value (cycle (numbered reasons.now members.now)) }
 {
     let mut list = [0u16; Transaction::WITNESS];
-    let mut i = 0;
-    while i < members.len() {
+    for i in 0..members.len() {
         let t = members[i];
         let reason = reasons[index(t)];
         put_entry(&mut list, i, t, reason % 4, reason / 4);
-        i += 1;
     }
     Witnessed {
-        answer: Answer::Cycle(i),
+        answer: Answer::Cycle(members.len()),
         list,
     }
 }

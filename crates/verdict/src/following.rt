@@ -28,26 +28,22 @@ use crate::version_graph::draw;
 fn count_members(order: &[u16]) -> usize
     ensures { Split order.now result }
 {
-    let mut i = 0;
-    while i < order.len() {
+    for i in 0..order.len() {
         if order[i] == 0 {
             return i;
         }
-        i += 1;
     }
-    i
+    order.len()
 }
 
 // Whether all numbers from place k on are 0.
 pub fn all_zero(order: &[u16], k: usize) -> bool
     ensures { result ≡ all (λ t. t is 0) (drop k order.now) }
 {
-    let mut i = k;
-    while i < order.len() {
+    for i in k..order.len() {
         if order[i] != 0 {
             return false;
         }
-        i += 1;
     }
     true
 }

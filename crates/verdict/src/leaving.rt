@@ -11,9 +11,7 @@ use crate::limits::Transaction;
 pub fn clear(work: &mut [u8])
     ensures { work.new ≡ zeros (length work.old) }
 {
-    for i in 0..work.len() {
-        work[i] = 0;
-    }
+    work.fill(0);
 }
 
 // Lays the entries into the lent witness: they stand first, with zeros behind them.
@@ -21,11 +19,7 @@ fn lay(witness: &mut [u16], list: &[u16; Transaction::WITNESS])
     requires { (length witness.old ≡ witness_buffer) × (length list.now ≡ witness_buffer) }
     ensures { witness.new ≡ list.now }
 {
-    let mut i: usize = 0;
-    while i < Transaction::WITNESS {
-        witness[i] = list[i];
-        i += 1;
-    }
+    witness.copy_from_slice(list);
 }
 
 // Clears the work area, lays the entries into the witness, and says the answer.

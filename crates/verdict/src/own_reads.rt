@@ -67,13 +67,11 @@ fn first_own(log: &[u16], n: usize, part: &[u64; graph::WORDS]) -> usize
 {
     let mut versions = [0u64; Transaction::TABLE];
     versions[0] = EVERY_OBJECT;
-    let mut i = 0;
-    while i < n {
+    for i in 0..n {
         if is_own_fault(log, i, part, &versions) {
             return i;
         }
         note_version(log, i, &mut versions);
-        i += 1;
     }
     n
 }

@@ -23,12 +23,10 @@ pub(crate) fn before_each(members: &[u16]) -> [u16; Transaction::TABLE]
 {
     let mut before = [0u16; Transaction::TABLE];
     let mut last = members[members.len() - 1];
-    let mut i = 0;
-    while i < members.len() {
+    for i in 0..members.len() {
         let t = members[i];
         before[index(t)] = last;
         last = t;
-        i += 1;
     }
     before
 }

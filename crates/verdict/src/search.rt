@@ -63,13 +63,11 @@ fn list_committed(log: &[u16], part: &[u64; graph::WORDS]) -> Roster
 {
     let mut list = [0u16; Transaction::SEARCHED];
     let mut count = 0;
-    let mut t: u16 = 1;
-    while t <= Transaction::LIMIT {
+    for t in 1..=Transaction::LIMIT {
         if takes_part(part, t) {
             list[count] = t;
             count += 1;
         }
-        t += 1;
     }
     Roster { list, count }
 }
@@ -79,10 +77,8 @@ fn need_table(log: &[u16], part: &[u64; graph::WORDS]) -> [u16; Transaction::PAI
     requires { (log_refusal log.now ≡ Passed) × Committed log.now part.now }
     ensures { Needs log.now result }
 {
-    let n = log.len() / 4;
     let mut table = [0u16; Transaction::PAIRS];
-    let mut i = 0;
-    while i < n {
+    for i in 0..log.len() / 4 {
         if judged_other(log, part, i) {
             let step = step_at(log, i);
             let row = index(step.tx);
@@ -90,7 +86,6 @@ fn need_table(log: &[u16], part: &[u64; graph::WORDS]) -> [u16; Transaction::PAI
             let k = row * Object::TABLE + column;
             table[k] = with_source(table[k], step.src);
         }
-        i += 1;
     }
     table
 }
@@ -112,12 +107,10 @@ fn needed_objects(need: &[u16; Transaction::PAIRS], t: u16) -> u64
 {
     let row = index(t) * Object::TABLE;
     let mut marks: u64 = 0;
-    let mut x: usize = 0;
-    while x < Object::TABLE {
+    for x in 0..Object::TABLE {
         if need[row + x] != 0 {
             marks = bits::with_mark(marks, x);
         }
-        x += 1;
     }
     marks
 }
@@ -132,10 +125,8 @@ fn all_needed(
     ensures { (i : ℕ) → i < n → NeededOf need.now (get_or ones.now i 0) (get_or result i 0) }
 {
     let mut asks = [0u64; Transaction::SEARCHED];
-    let mut i = 0;
-    while i < n {
+    for i in 0..n {
         asks[i] = needed_objects(need, ones[i]);
-        i += 1;
     }
     asks
 }

@@ -115,14 +115,12 @@ fn first_stale(
     ensures { result ≡ lowest (steps log.now) (stale_read log.now) }
 {
     let n = log.len() / 4;
-    let mut i = 0;
-    while i < n {
+    for i in 0..n {
         if is_stale(log, begins, commits, next, i) {
             return i;
         }
-        i += 1;
     }
-    i
+    n
 }
 
 // What step j, the commit of t, and p clash over: marks of the objects that both write, where p committed before step j and since t began.

@@ -77,11 +77,8 @@ pub(crate) fn draw(
     requires { (log_refusal log.now ≡ Passed) × Committed log.now part.now × NextWriters log.now next.now × Drawn no_edge matrix.old }
     ensures { Drawn (version_edge log.now) matrix.new }
 {
-    let n = log.len() / 4;
-    let mut i = 0;
-    while i < n {
+    for i in 0..log.len() / 4 {
         mark_step(log, matrix, part, next, i);
-        i += 1;
     }
 }
 

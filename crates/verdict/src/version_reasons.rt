@@ -80,13 +80,10 @@ fn version_reasons(
     requires { (log_refusal log.now ≡ Passed) × Committed log.now part.now × NextWriters log.now next.now × Ring members.now }
     ensures { Best members.now (version_on log.now) result }
 {
-    let n = log.len() / 4;
     let before = before_each(members);
     let mut best = [NO_REASON; Transaction::TABLE];
-    let mut i = 0;
-    while i < n {
+    for i in 0..log.len() / 4 {
         offer_step(log, &mut best, part, next, &before, i);
-        i += 1;
     }
     best
 }

@@ -18,15 +18,12 @@ pub(crate) fn index(x: u16) -> usize
 pub fn committed_count(log: &[u16]) -> usize
     ensures { result ≡ committed_count log.now }
 {
-    let n = log.len() / 4;
-    let mut i = 0;
     let mut total = 0;
-    while i < n {
+    for i in 0..log.len() / 4 {
         let step = step_at(log, i);
         if step.kind == Step::COMMIT {
             total += 1;
         }
-        i += 1;
     }
     total
 }

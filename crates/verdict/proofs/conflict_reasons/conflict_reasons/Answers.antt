@@ -63,10 +63,7 @@ placed c = c.index.ensures ∙ c.step_at-step.ensures.tx_is
 
 pub loop-j-init : goal.loop-j-init
 unfolding conflict_until some
-loop-j-init c = (refl, omega arith, best_none c.requires.2 (λ a b x k. refl), untouched _)
-
-pub step_at-step-requires : goal.step_at-step-requires
-step_at-step-requires c = omega arith
+loop-j-init c = (best_none c.requires.2 (λ a b x k. refl), untouched _)
 
 pub takes_part-requires : goal.takes_part-requires
 takes_part-requires c = rw c.step_at-step.ensures.tx_is (in_range c.before)
@@ -79,17 +76,11 @@ bounds-before-index c = omega (arith, placed c.before, (in_range c.before.before
 
 pub offer_earlier-requires : goal.offer_earlier-requires
 offer_earlier-requires c =
-    (c.loop-j.invariant.2.size, c.before_each-before.ensures.within _ (omega (arith, placed c.before, (in_range c.before.before.before.before.before.before).1)), rw c.step_at-step.ensures.obj_is (object c.before.before.before.before.before.before))
+    (c.loop-j.invariant.0.size, c.before_each-before.ensures.within _ (omega (arith, placed c.before, (in_range c.before.before.before.before.before.before).1)), rw c.step_at-step.ensures.obj_is (object c.before.before.before.before.before.before))
 
 pub touched_row-requires : goal.touched_row-requires
 touched_row-requires c =
     rw c.step_at-step.ensures.obj_is (object c.before.before.before.before.before.before.before.before.before.before)
-
-pub overflow_add-j : goal.overflow_add-j
-overflow_add-j c = omega arith
-
-pub loop-j-smaller : goal.loop-j-smaller
-loop-j-smaller c = omega arith
 
 pub loop-j-preserved : goal.loop-j-preserved
 loop-j-preserved c =
@@ -97,19 +88,17 @@ loop-j-preserved c =
     let known = c.loop-j.invariant in
     let stands = c.before_each-before.ensures in
     let q = (start c.before.before.before).requires in (
-      refl,
-      omega arith,
       elim c.if-takes_part.branch [
-        | then-takes_part w ↦ rw (w.best-is, add-one c.loop-j.j) (ends_offered (the_log c.before.before.before) stands q.3 c.loop-j.j (in_range c.before.before.before).1 known.3 (object c.before.before.before)
-            (w.index.ensures ∙ step.tx_is) step.kind_is step.obj_is (w.offer_earlier.ensures _ _ q.2 known.2))
+        | then-takes_part w ↦ rw (w.best-is, add-one c.loop-j.j) (ends_offered (the_log c.before.before.before) stands q.3 c.loop-j.j (in_range c.before.before.before).1 known.1 (object c.before.before.before)
+            (w.index.ensures ∙ step.tx_is) step.kind_is step.obj_is (w.offer_earlier.ensures _ _ q.2 known.0))
         | else-takes_part w ↦ rw (w.best-is, add-one c.loop-j.j) (ends_nothing (the_log c.before.before.before) stands q.3 c.loop-j.j (in_range c.before.before.before).1 q.2
-            (sym (told c.before.before) ∙ w.if-takes_part.false) known.2)
+            (sym (told c.before.before) ∙ w.if-takes_part.false) known.0)
       ],
       elim c.if-takes_part.branch [
-        | then-takes_part w ↦ rw (w.touched-is, add-one c.loop-j.j) (touched_more _ _ (sym (told c.before.before) ∙ w.if-takes_part.true) (in_range c.before.before.before) known.3
+        | then-takes_part w ↦ rw (w.touched-is, add-one c.loop-j.j) (touched_more _ _ (sym (told c.before.before) ∙ w.if-takes_part.true) (in_range c.before.before.before) known.1
             (object c.before.before.before) (w.index-then-takes_part.ensures ∙ step.tx_is) w.with_vertex-one.ensures
             (w.touched_row.ensures ∙ ap₂ touched_row step.kind_is step.obj_is) w.join.ensures)
-        | else-takes_part w ↦ rw (w.touched-is, add-one c.loop-j.j) (touches_none _ (open_step _ _ (sym (told c.before.before) ∙ w.if-takes_part.false)) known.3)
+        | else-takes_part w ↦ rw (w.touched-is, add-one c.loop-j.j) (touches_none _ (open_step _ _ (sym (told c.before.before) ∙ w.if-takes_part.false)) known.1)
       ],
     )
 
@@ -117,4 +106,4 @@ pub returns : goal.returns
 unfolding steps
 returns c =
     let e : c.loop-j.j ≡ length c.args.log.now / 4 = omega arith in
-    all_conflict_reasons _ (rw e at c.loop-j.invariant.2)
+    all_conflict_reasons _ (rw e at c.loop-j.invariant.0)

@@ -27,13 +27,7 @@ known c = rw c.index.ensures (c.requires.1 c.loop-i.i (omega arith))
 
 pub loop-i-init : goal.loop-i-init
 unfolding entries zeros in_threes
-loop-i-init c = (omega arith, search rules, refl)
-
-pub offset_bounds-members-i : goal.offset_bounds-members-i
-offset_bounds-members-i c = omega arith
-
-pub bounds-members-i : goal.bounds-members-i
-bounds-members-i c = omega arith
+loop-i-init c = (search rules, refl)
 
 pub offset_bounds-reasons-index : goal.offset_bounds-reasons-index
 offset_bounds-reasons-index c = omega (arith, known c.before)
@@ -42,13 +36,7 @@ pub bounds-reasons-index : goal.bounds-reasons-index
 bounds-reasons-index c = omega (arith, known c.before.before)
 
 pub put_entry-requires : goal.put_entry-requires
-put_entry-requires c = let q = c.requires in (c.loop-i.invariant.1, omega (arith, q.0))
-
-pub overflow_add-i : goal.overflow_add-i
-overflow_add-i c = let q = c.requires in omega (arith, q.0)
-
-pub loop-i-smaller : goal.loop-i-smaller
-loop-i-smaller c = omega arith
+put_entry-requires c = let q = c.requires in (c.loop-i.invariant.0, omega (arith, q.0))
 
 pub loop-i-preserved : goal.loop-i-preserved
 loop-i-preserved c =
@@ -56,11 +44,7 @@ loop-i-preserved c =
     let given : List ℕ = c.args.members.now in
     let numbers : List ℕ = c.args.reasons.now in
     let v : ℕ = get_or given c.loop-i.i 0 in
-    let e : get_or numbers c.index.result 0 ≡ get_or numbers v 0 = ap (λ (u : ℕ). get_or numbers u 0) c.index.ensures in (
-      omega arith,
-      ap length c.put_entry.ensures ∙ put_length c.loop-i.list c.loop-i.i _ _ _ ∙ inv.1,
-      c.put_entry.ensures ∙ ap₂ (λ (l : List ℕ) (n : ℕ). entry_put l c.loop-i.i v (n % 4) (n / 4)) inv.2 e ∙ member_more (entry_of numbers) given c.loop-i.i (omega arith) c.requires.0 _ (unfold entry_of in refl),
-    )
+    let e : get_or numbers c.index.result 0 ≡ get_or numbers v 0 = ap (λ (u : ℕ). get_or numbers u 0) c.index.ensures in (ap length c.put_entry.ensures ∙ put_length c.loop-i.list c.loop-i.i _ _ _ ∙ inv.0, c.put_entry.ensures ∙ ap₂ (λ (l : List ℕ) (n : ℕ). entry_put l c.loop-i.i v (n % 4) (n / 4)) inv.1 e ∙ member_more (entry_of numbers) given c.loop-i.i (omega arith) c.requires.0 _ (unfold entry_of in refl))
 
 pub returns : goal.returns
 unfolding said members numbered witness
@@ -68,4 +52,4 @@ returns c =
     let given : List ℕ = c.args.members.now in
     let numbers : List ℕ = c.args.reasons.now in
     let e : c.loop-i.i ≡ length given = omega arith in
-    ap₂ (λ (a : Answer) (l : List ℕ). record { answer = a; list = l }) (ap Cycle (e ∙ sym (length-map given (entry_of numbers)))) (c.loop-i.invariant.2 ∙ all_entries (entry_of numbers) given c.loop-i.i e)
+    ap₂ (λ (a : Answer) (l : List ℕ). record { answer = a; list = l }) (ap Cycle (sym (length-map given (entry_of numbers)))) (c.loop-i.invariant.1 ∙ all_entries (entry_of numbers) given c.loop-i.i e)

@@ -1,6 +1,5 @@
--- What the loop of `a_cycle` keeps, and why it ends.
+-- What the loop of `a_cycle` keeps.
 use mathlib.Core.Path.{◌≡◌}
-use Prim.Native.Nat.{◌-◌, ◌≤◌}
 use lib.ListN.{length}
 use Rattle.verdict.specs.Limits.{witness_buffer}
 use Rattle.verdict.specs.Inner.Reasons.{entry_of}
@@ -9,7 +8,4 @@ use Rattle.verdict.proofs.entries.a_cycle.Given as goal
 
 abbrev pub invariant-loop-i : goal.invariant-loop-i
 invariant-loop-i l =
-    (l.i ≤ length l.members) × (length l.list ≡ witness_buffer) × (l.list ≡ first_entries (entry_of l.reasons) l.members l.i)
-
-abbrev pub decreases-loop-i : goal.decreases-loop-i
-decreases-loop-i l = length l.members - l.i
+    (length l.list ≡ witness_buffer) × (l.list ≡ first_entries (entry_of l.reasons) l.members l.i)

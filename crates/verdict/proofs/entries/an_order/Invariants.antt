@@ -1,6 +1,6 @@
--- What the loop of `an_order` keeps, and why it ends.
+-- What the loop of `an_order` keeps.
 use mathlib.Core.Path.{◌≡◌}
-use Prim.Native.Nat.{ℕ, ◌-◌, ◌≤◌}
+use Prim.Native.Nat.{ℕ, ◌≤◌}
 use lib.ListN.{length}
 use Rattle.verdict.specs.Limits.{transactions, witness_buffer}
 use Rattle.verdict.specs.Reason.{Entry}
@@ -13,8 +13,4 @@ alone t = record { transaction = t; kind = 0; object = 0 }
 
 abbrev pub invariant-loop-i : goal.invariant-loop-i
 invariant-loop-i l =
-    (l.i ≤ length l.members) × (length l.members ≤ transactions) × (length l.list ≡ witness_buffer)
-    × (l.list ≡ first_entries alone l.members l.i)
-
-abbrev pub decreases-loop-i : goal.decreases-loop-i
-decreases-loop-i l = length l.members - l.i
+    (length l.members ≤ transactions) × (length l.list ≡ witness_buffer) × (l.list ≡ first_entries alone l.members l.i)

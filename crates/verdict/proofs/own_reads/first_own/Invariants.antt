@@ -1,7 +1,7 @@
--- What the loop of `first_own` keeps, and why it ends.
+-- What the loop of `first_own` keeps.
 use mathlib.Core.Path.{◌≡◌}
 use mathlib.Core.Bool.{false}
-use Prim.Native.Nat.{suc, ◌-◌, ◌≤◌}
+use Prim.Native.Nat.{suc}
 use lib.ListN.{length}
 use Rattle.words.specs.Tests.{some}
 use Rattle.verdict.specs.Limits.{transactions}
@@ -11,7 +11,4 @@ use Rattle.verdict.specs.Inner.WriteTable.{Versions}
 use Rattle.verdict.proofs.own_reads.first_own.Given as goal
 
 abbrev pub invariant-loop-i : goal.invariant-loop-i
-invariant-loop-i l = (l.n ≡ steps l.log) × (l.i ≤ l.n) × (some l.i (own_fault l.log) ≡ false) × Versions l.log l.i l.versions × (length l.versions ≡ suc transactions)
-
-abbrev pub decreases-loop-i : goal.decreases-loop-i
-decreases-loop-i l = l.n - l.i
+invariant-loop-i l = (l.n ≡ steps l.log) × (some l.i (own_fault l.log) ≡ false) × Versions l.log l.i l.versions × (length l.versions ≡ suc transactions)

@@ -28,23 +28,11 @@ bounds-members-members c = omega (arith, c.requires.any)
 pub loop-i-init : goal.loop-i-init
 loop-i-init c = stood_none c.requires refl
 
-pub offset_bounds-members-i : goal.offset_bounds-members-i
-offset_bounds-members-i c = omega arith
-
-pub bounds-members-i : goal.bounds-members-i
-bounds-members-i c = c.loop-i-test.true
-
 pub offset_bounds-before-index : goal.offset_bounds-before-index
 offset_bounds-before-index c = omega (arith, known c.before)
 
 pub bounds-before-index : goal.bounds-before-index
 bounds-before-index c = omega (arith, known c.before)
-
-pub overflow_add-i : goal.overflow_add-i
-overflow_add-i c = omega arith
-
-pub loop-i-smaller : goal.loop-i-smaller
-loop-i-smaller c = omega arith
 
 pub loop-i-preserved : goal.loop-i-preserved
 loop-i-preserved c = rw c.index.ensures (stood_more c.requires c.loop-i.invariant (omega arith) refl)

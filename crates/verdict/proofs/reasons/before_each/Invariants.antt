@@ -1,11 +1,6 @@
--- What the loop of `before_each` keeps, and why it ends.
-use Prim.Native.Nat.{◌-◌}
-use lib.ListN.{length}
+-- What the loop of `before_each` keeps.
 use Rattle.verdict.proofs.Standing.{Stood}
 use Rattle.verdict.proofs.reasons.before_each.Given as goal
 
 abbrev pub invariant-loop-i : goal.invariant-loop-i
 invariant-loop-i l = Stood l.members l.i l.last l.before
-
-abbrev pub decreases-loop-i : goal.decreases-loop-i
-decreases-loop-i l = length l.members - l.i

@@ -8,34 +8,15 @@ use Rattle.verdict.proofs.NeededMarks.{needed_next}
 use Rattle.verdict.proofs.search.all_needed.Goals as goal
 
 pub loop-i-init : goal.loop-i-init
-loop-i-init c = (omega arith, c.requires.0, search rules, λ (k : ℕ) (h : k < 0). absurd (omega arith))
-
-pub offset_bounds-ones-i : goal.offset_bounds-ones-i
-offset_bounds-ones-i c = omega arith
-
-pub bounds-ones-i : goal.bounds-ones-i
-bounds-ones-i c = omega arith
+loop-i-init c = (c.requires.0, search rules, λ (k : ℕ) (h : k < 0). absurd (omega arith))
 
 pub needed_objects-requires : goal.needed_objects-requires
 needed_objects-requires c = c.requires.1 c.loop-i.i (omega arith)
 
-pub offset_bounds-asks-i : goal.offset_bounds-asks-i
-offset_bounds-asks-i c = omega arith
-
-pub bounds-asks-i : goal.bounds-asks-i
-bounds-asks-i c = omega arith
-
-pub overflow_add-i : goal.overflow_add-i
-overflow_add-i c = omega arith
-
-pub loop-i-smaller : goal.loop-i-smaller
-loop-i-smaller c = omega arith
-
 pub loop-i-preserved : goal.loop-i-preserved
 loop-i-preserved c =
     let inv = c.loop-i.invariant in
-    let a = c.args in
-    (omega arith, inv.1, length-set c.loop-i.asks _ _ ∙ inv.2, needed_next a.need.now a.ones.now c.loop-i.asks (omega (arith, inv.2)) inv.3 c.needed_objects.ensures)
+    let a = c.args in (inv.0, length-set c.loop-i.asks _ _ ∙ inv.1, needed_next a.need.now a.ones.now c.loop-i.asks (omega (arith, inv.1)) inv.2 c.needed_objects.ensures)
 
 pub returns : goal.returns
-returns c k h = c.loop-i.invariant.3 k (omega arith)
+returns c k h = c.loop-i.invariant.2 k (omega arith)

@@ -1,5 +1,5 @@
 -- `need_table` meets its contract.
-use mathlib.Core.Path.{◌≡◌, refl, sym, ◌∙◌}
+use mathlib.Core.Path.{◌≡◌, sym, ◌∙◌}
 use mathlib.Core.Bool.{true}
 use mathlib.Core.Logic.{inl}
 use mathlib.Core.List.{List}
@@ -26,57 +26,46 @@ within log i passed h judged =
     ((well.range i h).1, well.object i h (inl read), well.sources i h read)
 
 pub loop-i-init : goal.loop-i-init
-loop-i-init c = (refl, omega arith, c.requires.0, c.requires.1, needed_none _ 8256 (omega arith))
+loop-i-init c = (c.requires.0, c.requires.1, needed_none _ 8256 (omega arith))
 
 pub judged_other-requires : goal.judged_other-requires
-judged_other-requires c = (c.loop-i.invariant.2, omega arith, c.loop-i.invariant.3)
-
-pub step_at-step-requires : goal.step_at-step-requires
-step_at-step-requires c = omega arith
+judged_other-requires c = (c.loop-i.invariant.0, omega arith, c.loop-i.invariant.1)
 
 pub bounds-table-k : goal.bounds-table-k
 unfolding steps
 bounds-table-k c =
-    let h = within _ _ c.loop-i.invariant.2 (omega arith) (sym c.judged_other.ensures ∙ c.if-judged_other.true) in
+    let h = within _ _ c.loop-i.invariant.0 (omega arith) (sym c.judged_other.ensures ∙ c.if-judged_other.true) in
     let step = c.step_at-step.ensures in
     omega (arith, c.index-row.ensures, c.index-column.ensures, step.tx_is, step.obj_is, h)
 
 pub with_source-requires : goal.with_source-requires
 unfolding steps
 with_source-requires c =
-    let h = within _ _ c.loop-i.invariant.2 (omega arith) (sym c.judged_other.ensures ∙ c.if-judged_other.true) in
+    let h = within _ _ c.loop-i.invariant.0 (omega arith) (sym c.judged_other.ensures ∙ c.if-judged_other.true) in
     omega (arith, c.step_at-step.ensures.src_is, h)
 
 pub bounds-table-k-then-judged_other : goal.bounds-table-k-then-judged_other
 unfolding steps
 bounds-table-k-then-judged_other c =
-    let h = within _ _ c.loop-i.invariant.2 (omega arith) (sym c.judged_other.ensures ∙ c.if-judged_other.true) in
+    let h = within _ _ c.loop-i.invariant.0 (omega arith) (sym c.judged_other.ensures ∙ c.if-judged_other.true) in
     let step = c.step_at-step.ensures in
     omega (arith, c.index-row.ensures, c.index-column.ensures, step.tx_is, step.obj_is, h)
-
-pub overflow_add-i : goal.overflow_add-i
-overflow_add-i c = omega arith
-
-pub loop-i-smaller : goal.loop-i-smaller
-loop-i-smaller c = omega arith
 
 pub loop-i-preserved : goal.loop-i-preserved
 unfolding steps
 loop-i-preserved c =
     let loop = c.loop-i in
     let says = sym c.judged_other.ensures in (
-      refl,
-      omega arith,
-      loop.invariant.2,
-      loop.invariant.3,
+      loop.invariant.0,
+      loop.invariant.1,
       elim c.if-judged_other.branch [
         | then-judged_other w ↦
             let judged = says ∙ w.if-judged_other.true in
-            let h = within _ loop.i loop.invariant.2 (omega arith) judged in
+            let h = within _ loop.i loop.invariant.0 (omega arith) judged in
             let step = w.step_at-step.ensures in
             rw (w.table-is, w.with_source.ensures, w.index-row.ensures ∙ step.tx_is, w.index-column.ensures ∙ step.obj_is, step.src_is)
-            (needed_more _ loop.i loop.invariant.4 judged h.0 h.1)
-        | else-judged_other w ↦ rw w.table-is (needed_same _ loop.i loop.invariant.4 (says ∙ w.if-judged_other.false))
+            (needed_more _ loop.i loop.invariant.2 judged h.0 h.1)
+        | else-judged_other w ↦ rw w.table-is (needed_same _ loop.i loop.invariant.2 (says ∙ w.if-judged_other.false))
       ],
     )
 
@@ -84,4 +73,4 @@ pub returns : goal.returns
 unfolding steps
 returns c =
     let e : c.loop-i.i ≡ length c.args.log.now / 4 = omega arith in
-    needed_all _ (rw e at c.loop-i.invariant.4)
+    needed_all _ (rw e at c.loop-i.invariant.2)

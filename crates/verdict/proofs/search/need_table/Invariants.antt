@@ -1,7 +1,5 @@
--- What the loop of `need_table` keeps, and why it ends.
+-- What the loop of `need_table` keeps.
 use mathlib.Core.Path.{◌≡◌}
-use Prim.Native.Nat.{◌-◌, ◌/◌, ◌≤◌}
-use lib.ListN.{length}
 use Rattle.verdict.specs.Refusal.{log_refusal}
 use Rattle.verdict.specs.Inner.Marks.{Committed}
 use Rattle.verdict.specs.Answers.{Passed}
@@ -9,8 +7,4 @@ use Rattle.verdict.proofs.SearchTables.{Needed}
 use Rattle.verdict.proofs.search.need_table.Given as goal
 
 abbrev pub invariant-loop-i : goal.invariant-loop-i
-invariant-loop-i l =
-    (l.n ≡ length l.log / 4) × (l.i ≤ l.n) × (log_refusal l.log ≡ Passed) × Committed l.log l.part × Needed l.log l.i l.table
-
-abbrev pub decreases-loop-i : goal.decreases-loop-i
-decreases-loop-i l = l.n - l.i
+invariant-loop-i l = (log_refusal l.log ≡ Passed) × Committed l.log l.part × Needed l.log l.i l.table

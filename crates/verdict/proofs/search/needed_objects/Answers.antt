@@ -10,35 +10,19 @@ pub overflow_mul-row : goal.overflow_mul-row
 overflow_mul-row c = omega (arith, c.index-row.ensures, c.requires)
 
 pub loop-x-init : goal.loop-x-init
-loop-x-init c = (omega arith, ap (λ (n : ℕ). n * 64) c.index-row.ensures, c.requires, needed_nothing _ _)
-
-pub overflow_add-row : goal.overflow_add-row
-overflow_add-row c = omega arith
-
-pub offset_bounds-need-row : goal.offset_bounds-need-row
-offset_bounds-need-row c = omega arith
-
-pub bounds-need-row : goal.bounds-need-row
-bounds-need-row c = omega arith
-
-pub overflow_add-x : goal.overflow_add-x
-overflow_add-x c = omega arith
-
-pub loop-x-smaller : goal.loop-x-smaller
-loop-x-smaller c = omega arith
+loop-x-init c = (ap (λ (n : ℕ). n * 64) c.index-row.ensures, c.requires, needed_nothing _ _)
 
 pub loop-x-preserved : goal.loop-x-preserved
 loop-x-preserved c =
     let inv = c.loop-x.invariant in (
-      omega arith,
+      inv.0,
       inv.1,
-      inv.2,
       elim c.if-need-row-ne0.branch [
         | then-need-row-ne0 w ↦
-            rw (w.marks-is, w.with_mark-marks.ensures) (needed_some_of inv.3 (omega arith) (rw inv.1 at w.if-need-row-ne0.true))
-        | else-need-row-ne0 w ↦ rw w.marks-is (needed_none_of inv.3 (rw inv.1 at w.if-need-row-ne0.false))
+            rw (w.marks-is, w.with_mark-marks.ensures) (needed_some_of inv.2 (omega arith) (rw inv.0 at w.if-need-row-ne0.true))
+        | else-need-row-ne0 w ↦ rw w.marks-is (needed_none_of inv.2 (rw inv.0 at w.if-need-row-ne0.false))
       ],
     )
 
 pub returns : goal.returns
-returns c = needed_all_of c.loop-x.invariant.3 (omega arith)
+returns c = needed_all_of c.loop-x.invariant.2 (omega arith)

@@ -11,7 +11,7 @@ use Rattle.verdict.proofs.snapshots.first_stale.Goals as goal
 
 pub loop-i-init : goal.loop-i-init
 unfolding some
-loop-i-init c = (refl, omega arith, refl)
+loop-i-init c = refl
 
 pub is_stale-requires : goal.is_stale-requires
 is_stale-requires c = let known = c.requires in (known.0, known.1, known.2, known.3, omega arith)
@@ -20,18 +20,11 @@ pub returns-then-is_stale : goal.returns-then-is_stale
 unfolding steps
 returns-then-is_stale c =
     let loop = c.loop-i in
-    sym (lowest_found _ loop.i (omega arith) (sym c.is_stale.ensures ∙ c.if-is_stale.true) loop.invariant.2)
-
-pub overflow_add-i : goal.overflow_add-i
-overflow_add-i c = omega arith
-
-pub loop-i-smaller : goal.loop-i-smaller
-loop-i-smaller c = omega arith
+    sym (lowest_found _ loop.i (omega arith) (sym c.is_stale.ensures ∙ c.if-is_stale.true) loop.invariant)
 
 pub loop-i-preserved : goal.loop-i-preserved
 loop-i-preserved c =
-    let inv = c.loop-i.invariant in
-    (refl, omega arith, none_next _ _ inv.2 (sym c.is_stale.ensures ∙ c.if-is_stale.false))
+    let inv = c.loop-i.invariant in none_next _ _ inv (sym c.is_stale.ensures ∙ c.if-is_stale.false)
 
 pub returns : goal.returns
 unfolding steps
@@ -39,4 +32,4 @@ returns c =
     let loop = c.loop-i in
     let log = c.args.log.now in
     let e : loop.i ≡ length log / 4 = omega arith in
-    e ∙ sym (lowest_none (stale_read log) (rw e at loop.invariant.2))
+    sym (lowest_none (stale_read log) (rw e at loop.invariant))

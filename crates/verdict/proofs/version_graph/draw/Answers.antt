@@ -15,21 +15,15 @@ use Rattle.verdict.proofs.version_graph.draw.Goals as goal
 
 pub loop-i-init : goal.loop-i-init
 unfolding versions_until some no_edge
-loop-i-init c = (refl, omega arith, same_edges c.requires.3 (λ a b. refl))
+loop-i-init c = same_edges c.requires.3 (λ a b. refl)
 
 pub mark_step-requires : goal.mark_step-requires
-mark_step-requires c = (c.requires.0, omega arith, c.requires.1, c.requires.2, c.loop-i.invariant.2)
-
-pub overflow_add-i : goal.overflow_add-i
-overflow_add-i c = omega arith
-
-pub loop-i-smaller : goal.loop-i-smaller
-loop-i-smaller c = omega arith
+mark_step-requires c = (c.requires.0, omega arith, c.requires.1, c.requires.2, c.loop-i.invariant)
 
 pub loop-i-preserved : goal.loop-i-preserved
-loop-i-preserved c = (refl, omega arith, rw (add-one c.loop-i.i) c.mark_step.ensures)
+loop-i-preserved c = rw (add-one c.loop-i.i) c.mark_step.ensures
 
 pub returns : goal.returns
 unfolding steps
 returns c = let e : c.loop-i.i ≡ length c.args.log.now / 4 = omega arith in
-    same_edges (rw e at c.loop-i.invariant.2) (all_versions _ (well_formed _ c.requires.0))
+    same_edges (rw e at c.loop-i.invariant) (all_versions _ (well_formed _ c.requires.0))

@@ -12,38 +12,24 @@ use Rattle.verdict.proofs.walk.committed_count.Goals.{then-step-eq-COMMIT, else-
 
 pub loop-i-init : goal.loop-i-init
 unfolding count
-loop-i-init c = (refl, omega arith, omega arith, refl)
-
-pub step_at-step-requires : goal.step_at-step-requires
-step_at-step-requires c = omega arith
-
-pub overflow_add-total : goal.overflow_add-total
-overflow_add-total c = omega arith
-
-pub overflow_add-i : goal.overflow_add-i
-overflow_add-i c = omega arith
-
-pub loop-i-smaller : goal.loop-i-smaller
-loop-i-smaller c = omega arith
+loop-i-init c = (omega arith, refl)
 
 pub loop-i-preserved : goal.loop-i-preserved
 loop-i-preserved c =
     let inv = c.loop-i.invariant in
     let step = c.step_at-step.ensures in (
-      refl,
-      omega arith,
       elim c.if-step-eq-COMMIT.branch [
         | then-step-eq-COMMIT w ↦ omega (arith, w.total-is)
         | else-step-eq-COMMIT w ↦ omega (arith, w.total-is)
       ],
       elim c.if-step-eq-COMMIT.branch [
         | then-step-eq-COMMIT w ↦
-            w.total-is ∙ add-one _ ∙ ap suc inv.3 ∙ sym (count_yes _ _ (→is (sym step.kind_is ∙ w.if-step-eq-COMMIT.true)))
+            w.total-is ∙ add-one _ ∙ ap suc inv.1 ∙ sym (count_yes _ _ (→is (sym step.kind_is ∙ w.if-step-eq-COMMIT.true)))
         | else-step-eq-COMMIT w ↦
-            w.total-is ∙ inv.3 ∙ sym (count_no _ _ (→isnt (λ e. w.if-step-eq-COMMIT.false (step.kind_is ∙ e))))
+            w.total-is ∙ inv.1 ∙ sym (count_no _ _ (→isnt (λ e. w.if-step-eq-COMMIT.false (step.kind_is ∙ e))))
       ],
     )
 
 pub returns : goal.returns
 unfolding committed_count steps
-returns c = let e : c.loop-i.i ≡ length c.args.log.now / 4 = omega arith in rw (← e) c.loop-i.invariant.3
+returns c = let e : c.loop-i.i ≡ length c.args.log.now / 4 = omega arith in rw (← e) c.loop-i.invariant.1
