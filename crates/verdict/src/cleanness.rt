@@ -57,10 +57,9 @@ fn first_fault(log: &[u16], part: &[u64; graph::WORDS]) -> usize
     ensures { result ≡ lowest (steps log.now) (source_fault log.now) }
 {
     let mut later = [0u64; Transaction::TABLE];
-    let mut i = log.len() / 4;
-    let mut fault = i;
-    while 0 < i {
-        i -= 1;
+    let n = log.len() / 4;
+    let mut fault = n;
+    for i in (0..n).rev() {
         let step = step_at(log, i);
         if step.kind == Step::WRITE {
             let t = index(step.tx);

@@ -137,13 +137,10 @@ fn fits(need: &[u16; Transaction::PAIRS], marks: u64, last: &[u8; Object::TABLE]
     ensures { result ≡ every objects (λ x. allows (get_or need.now (t * objects + x) 0) (get_or last.now x 0)) }
 {
     let row = index(t) * Object::TABLE;
-    let mut left = marks;
-    while bits::any_mark(left) {
-        let x = bits::lowest_mark(left);
+    for x in bits::EachMark(marks) {
         if !allows(need[row + x], last[x]) {
             return false;
         }
-        left = bits::without_mark(left, x);
     }
     true
 }
@@ -191,11 +188,8 @@ fn note_last(
 {
     let t = ones[i];
     let writer = t as u8;
-    let mut left = writes[index(t)];
-    while bits::any_mark(left) {
-        let x = bits::lowest_mark(left);
+    for x in bits::EachMark(writes[index(t)]) {
         last[x] = writer;
-        left = bits::without_mark(left, x);
     }
 }
 

@@ -29,9 +29,7 @@ fn last_committed(log: &[u16], writes: &[u64; Transaction::TABLE], b: usize, x: 
     requires { (log_refusal log.now ≡ Passed) × WriteTable log.now writes.now × (4 * b ≤ length log.now) × (x < objects) }
     ensures { result ≡ last_committed log.now b x }
 {
-    let mut j = b;
-    while 0 < j {
-        j -= 1;
+    for j in (0..b).rev() {
         let earlier = step_at(log, j);
         if earlier.kind == Step::COMMIT {
             if object_marked(writes, earlier.tx, x) {

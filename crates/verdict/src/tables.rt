@@ -17,12 +17,9 @@ fn put_before(table: &mut [u8; Transaction::PAIRS], marks: u64, t: usize)
     ensures { PutBefore table.old marks t table.new }
 {
     let row = t * Object::TABLE;
-    let mut left = marks;
-    while bits::any_mark(left) {
-        let x = bits::lowest_mark(left);
+    for x in bits::EachMark(marks) {
         table[row + x] = table[x];
         table[x] = t as u8;
-        left = bits::without_mark(left, x);
     }
 }
 
