@@ -1,4 +1,6 @@
 -- The snapshot verdict: what a read should have found, which writers clash, and the verdict from the lowest of both.
+use Rattle.std.specs.Prelude.{None, Some}
+use Rattle.verdict.specs.declared.snapshots.Clash.{Clash}
 use mathlib.Core.Path.{◌≡◌, refl, sym, ap, subst, ◌∙◌}
 use mathlib.Core.Bool.{Bool, true, false}
 use mathlib.Core.Logic.{◌⊎◌, inl, inr}
@@ -8,7 +10,7 @@ use native.Mathlib.Omega.{arith}
 use native.Mathlib.Numerals.{add-one}
 use lib.ListN.{get_or}
 use Rattle.words.specs.Tests.{◌below◌, provided◌then◌else◌, some, lowest, highest}
-use Rattle.words.proofs.Truth.{decide, not_both, to_false, and→, →and, and_no_left, and_no_right, →or_left, →or_right, or_false, →is, is→, →isnt, →below, →not_below, provided_true, provided_false, some→, →some, none→, →none, none_next, lowest_is, lowest_none, lowest_at, lowest_passes, lowest_bound, below_lowest, highest_yes, highest_no, highest_is, highest_none}
+use Rattle.words.proofs.Truth.{decide, not_both, to_false, and→, →and, and_no_left, and_no_right, →or_left, →or_right, or_false, →is, is→, →isnt, →below, →not_below, provided_true, provided_false, some→, →some, none→, →none, none_next, lowest_is, lowest_at, lowest_passes, lowest_bound, below_lowest, highest_yes, highest_no, highest_is, highest_none}
 use Rattle.verdict.specs.Limits.{transactions, objects}
 use Rattle.verdict.specs.Log.{steps, kind, tx, obj, begins, writes, committed, commits, writer, begin_step, commit_step, commits_writer}
 use Rattle.verdict.specs.Clean.{judged_other, after_own_write}
@@ -119,20 +121,13 @@ module _ (log : List ℕ) (j p : ℕ) where
 
 -- the search over commits, partners and objects, below step k
 module _ (log : List ℕ) (k j : ℕ) (none_earlier : some j (wrong_commit transactions log) ≡ false) where
-  pub clash_found : (p : ℕ) → j < k → p ≤ transactions → some p (clash log j) ≡ false → clash log j p ≡ true → FirstClash log k j p
+  pub clash_found : (p : ℕ) → j < k → p ≤ transactions → some p (clash log j) ≡ false → clash log j p ≡ true → FirstClash log k (Some (record { step = j; partner = p }))
   unfolding wrong_commit
   clash_found p h l n c =
-      record {
-        first = sym (lowest_at (wrong_commit transactions log) j h (→some _ p (omega arith) c) (none→ _ none_earlier));
-        other = λ _. sym (lowest_at (clash log j) p (omega arith) c (none→ _ n));
-      }
+      (h, sym (lowest_at (wrong_commit transactions log) j h (→some _ p (omega arith) c) (none→ _ none_earlier)), sym (lowest_at (clash log j) p (omega arith) c (none→ _ n)))
 
-  pub no_clash : (p : ℕ) → j ≡ k → FirstClash log k j p
-  no_clash p e =
-      record {
-        first = e ∙ sym (lowest_none (wrong_commit transactions log) (rw e at none_earlier));
-        other = λ (h : j < k). absurd (omega arith);
-      }
+  pub no_clash : j ≡ k → FirstClash log k None
+  no_clash e = rw e at none_earlier
 
 -- THE STEPS OF A TRANSACTION
 pub begins_within : (log : List ℕ) (t : ℕ) → snapshot_step log t ≤ steps log
@@ -169,37 +164,43 @@ module _ (log : List ℕ) where
   unfolding wrong_commit
   wrong_commit_kind j h = let r = some→ h in commit_of log j r.0 r.2
 
-  -- k is the lowest wrong read, and j the lowest wrong commit below it
-  module _ (k j p : ℕ) (read : k ≡ lowest (steps log) (wrong_read log)) (found : FirstClash log k j p) where
-    none_yet : (i : ℕ) → i < k → i < j → wrong_step transactions log i ≡ false
+  -- k is the lowest wrong read
+  module _ (k : ℕ) (read : k ≡ lowest (steps log) (wrong_read log)) where
+    none_yet : {j : ℕ} → ((i : ℕ) → i < k → i < j → wrong_commit transactions log i ≡ false) → (i : ℕ) → i < k → i < j → wrong_step transactions log i ≡ false
     unfolding wrong_step
-    none_yet i h l =
-        let f : j ≡ lowest k (wrong_commit transactions log) = found.first in
-        or_false (below_lowest (steps log) (wrong_read log) i (omega arith)) ∙ below_lowest k (wrong_commit transactions log) i (omega arith)
+    none_yet none i h l = or_false (below_lowest (steps log) (wrong_read log) i (omega arith)) ∙ none i h l
 
-    pub read_first : {w : Writer} → k ≤ j → k < steps log → w ≡ wanted log k → snapshot_verdict transactions log ≡ Read k w
-    unfolding snapshot_verdict wrong_step snapshot_fault
-    read_first h n v =
-        let w : wrong_read log k ≡ true = rw read (lowest_is {n = steps log} (wrong_read log) (lowest_passes (wrong_read log) (omega arith))).1 in
-        let s : wrong_step transactions log k ≡ true = →or_left _ w in
-        let e : lowest (steps log) (wrong_step transactions log) ≡ k = lowest_at (wrong_step transactions log) k n s (λ (i : ℕ) (l : i < k). none_yet i l (omega arith)) in
-        provided_true _ _ (→some _ k n s) ∙ ap (snapshot_fault transactions log) e ∙ provided_true _ _ w ∙ ap (Read k) (sym v)
+    -- there is no wrong commit below it
+    module _ (no_clash : FirstClash log k None) where
+      fine : (i : ℕ) → i < k → wrong_step transactions log i ≡ false
+      fine i h = none_yet {j = k} (λ i h l. none→ _ no_clash i h) i h h
 
-    pub write_first : j < k → snapshot_verdict transactions log ≡ Write j p
+      pub read_first : {w : Writer} → k < steps log → w ≡ wanted log k → snapshot_verdict transactions log ≡ Read k w
+      unfolding snapshot_verdict wrong_step snapshot_fault
+      read_first n v =
+          let w : wrong_read log k ≡ true = rw read (lowest_is {n = steps log} (wrong_read log) (lowest_passes (wrong_read log) (omega arith))).1 in
+          let s : wrong_step transactions log k ≡ true = →or_left _ w in
+          let e : lowest (steps log) (wrong_step transactions log) ≡ k = lowest_at (wrong_step transactions log) k n s fine in
+          provided_true _ _ (→some _ k n s) ∙ ap (snapshot_fault transactions log) e ∙ provided_true _ _ w ∙ ap (Read k) (sym v)
+
+      pub all_right : steps log ≤ k → snapshot_verdict transactions log ≡ Yes
+      unfolding snapshot_verdict
+      all_right n = provided_false _ _ (→none _ (λ (i : ℕ) (l : i < steps log). fine i (omega arith)))
+
+    -- j is the lowest wrong commit below it, with its partner
+    pub write_first : (c : Clash) → FirstClash log k (Some c) → snapshot_verdict transactions log ≡ Write c.step c.partner
     unfolding snapshot_verdict wrong_step snapshot_fault
-    write_first h =
-        let f : j ≡ lowest k (wrong_commit transactions log) = found.first in
-        let n : j < steps log = omega (arith, lowest_bound {n = steps log} (wrong_read log)) in
-        let w : wrong_commit transactions log j ≡ true = rw f (lowest_is {n = k} (wrong_commit transactions log) (lowest_passes (wrong_commit transactions log) (omega arith))).1 in
+    write_first clash found =
+        let j = clash.step in
+        let f : j ≡ lowest k (wrong_commit transactions log) = found.1 in
+        let n : j < steps log = omega (arith, found.0, lowest_bound {n = steps log} (wrong_read log)) in
+        let w : wrong_commit transactions log j ≡ true = rw f (lowest_is {n = k} (wrong_commit transactions log) (lowest_passes (wrong_commit transactions log) (omega (arith, found.0)))).1 in
         let s : wrong_step transactions log j ≡ true = →or_right _ w in
         let c : kind log j ≡ 4 = wrong_commit_kind j w in
         let g : wrong_read log j ≡ false = not_wrong log j (other_kind log j (λ (q : kind log j ≡ 2). omega arith)) in
-        let e : lowest (steps log) (wrong_step transactions log) ≡ j = lowest_at (wrong_step transactions log) j n s (λ (i : ℕ) (l : i < j). none_yet i (omega arith) l) in
-        provided_true _ _ (→some _ j n s) ∙ ap (snapshot_fault transactions log) e ∙ provided_false _ _ g ∙ ap (Write j) (sym (found.other h))
-
-    pub all_right : k ≤ j → steps log ≤ k → snapshot_verdict transactions log ≡ Yes
-    unfolding snapshot_verdict
-    all_right h n = provided_false _ _ (→none _ (λ (i : ℕ) (l : i < steps log). none_yet i (omega arith) (omega arith)))
+        let none : (i : ℕ) → i < k → i < j → wrong_commit transactions log i ≡ false = λ i h l. below_lowest k (wrong_commit transactions log) i (omega arith) in
+        let e : lowest (steps log) (wrong_step transactions log) ≡ j = lowest_at (wrong_step transactions log) j n s (λ (i : ℕ) (l : i < j). none_yet {j = j} none i (omega (arith, found.0)) l) in
+        provided_true _ _ (→some _ j n s) ∙ ap (snapshot_fault transactions log) e ∙ provided_false _ _ g ∙ ap (Write j) (sym found.2)
 
 -- a log without steps has nothing wrong
 pub none_wrong : (log : List ℕ) → steps log ≡ 0 → snapshot_verdict transactions log ≡ Yes

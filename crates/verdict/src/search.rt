@@ -212,9 +212,7 @@ fn place(
     ensures { Searched log.now (placed_of run placed) n result order.new × (length order.new ≡ most_searched) }
 {
     let at = run.at;
-    let mut rest = run.free;
-    while bits::any_mark(rest) {
-        let i = bits::lowest_mark(rest);
+    for i in bits::EachMark(run.free) {
         if may_follow(need, ones, asks, last, i) {
             let next = with_placed(run, i);
             let mut more = placed;
@@ -225,7 +223,6 @@ fn place(
                 return true;
             }
         }
-        rest = bits::without_mark(rest, i);
     }
     if at != n {
         return false;

@@ -146,30 +146,30 @@ fn clashes(
 }
 
 // Notes step j in the table of the last commits. Answers who commits there, where an object that it writes was written by one who committed
-// since it began; else 0.
+// since it began.
 fn note_commit(
     last: &mut [u16; Object::TABLE],
     log: &[u16],
     writes: &[u64; Transaction::TABLE],
     begins: &[u16; Transaction::TABLE],
     j: usize,
-) -> u16
+) -> Option<u16>
     requires { (log_refusal log.now ≡ Passed) × WriteTable log.now writes.now × FirstSteps log.now 1 begins.now
         × LastCommits log.now j last.old × (j < steps log.now) }
     ensures { CommitNoted log.now j result last.new }
 {
     let step = step_at(log, j);
     if step.kind != Step::COMMIT {
-        return 0;
+        return None;
     }
     let t = step.tx;
     let mine = writes[index(t)];
     let since = bits::marked_above(last, mine, step_of(begins, t));
     bits::put_marked(last, mine, j as u16);
     if since {
-        return t;
+        return Some(t);
     }
-    0
+    None
 }
 
 // A clash: the commit of the later writer, and the partner.
@@ -179,7 +179,7 @@ struct Clash {
     partner: u16,
 }
 
-// The first clash over commits, partners and objects before step k; its step is k where there is none. Partners are tried where an object
+// The first clash over commits, partners and objects before step k. Partners are tried where an object
 // was written by one who committed since the transaction began, and objects where the partner overlaps and shares a mark.
 fn first_clash(
     log: &[u16],
@@ -187,38 +187,32 @@ fn first_clash(
     begins: &[u16; Transaction::TABLE],
     commits: &[u16; Transaction::TABLE],
     k: usize,
-) -> Clash
+) -> Option<Clash>
     requires { (log_refusal log.now ≡ Passed) × WriteTable log.now writes.now × FirstSteps log.now 1 begins.now
         × FirstSteps log.now 4 commits.now × (k ≤ steps log.now) }
-    ensures { FirstClash log.now k result.step result.partner }
+    ensures { FirstClash log.now k result }
 {
     let mut last = [0u16; Object::TABLE];
-    let mut j = 0;
-    let mut p: u16 = 0;
-    'search: while j < k {
-        let t = note_commit(&mut last, log, writes, begins, j);
-        if t != 0 {
-            p = 0;
-            while p <= Transaction::LIMIT {
+    let mut found = None;
+    'search: for j in 0..k {
+        if let Some(t) = note_commit(&mut last, log, writes, begins, j) {
+            for p in 0..=Transaction::LIMIT {
                 let both = clashes(writes, begins, commits, log, j, t, p);
                 if both != 0 {
-                    let mut x = 0;
-                    while x < Object::TABLE {
+                    for x in 0..Object::TABLE {
                         if bits::has_mark(both, x) {
+                            found = Some(Clash {
+                                step: j,
+                                partner: p,
+                            });
                             break 'search;
                         }
-                        x += 1;
                     }
                 }
-                p += 1;
             }
         }
-        j += 1;
     }
-    Clash {
-        step: j,
-        partner: p,
-    }
+    found
 }
 
 // The lower of two steps.
@@ -248,11 +242,8 @@ pub(crate) fn judge_snapshot(
     let n = log.len() / 4;
     let stale = first_stale(log, begins, commits, next);
     let k = lower(own, stale);
-    let clash = first_clash(log, writes, begins, commits, k);
-    let j = clash.step;
-    let p = clash.partner;
-    if j < k {
-        return Snapshot::Write(j, p);
+    if let Some(clash) = first_clash(log, writes, begins, commits, k) {
+        return Snapshot::Write(clash.step, clash.partner);
     }
     if k < n {
         return Snapshot::Read(k, wanted(log, writes, begins, k, own <= stale));

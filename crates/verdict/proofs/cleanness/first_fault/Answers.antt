@@ -72,17 +72,19 @@ pub loop-i-preserved-then-is_faulty : goal.loop-i-preserved-then-is_faulty
 unfolding steps
 loop-i-preserved-then-is_faulty c =
     let log = c.args.log.now in
-    let known = c.loop-i.invariant in
-    (later_skip _ _ (behind log c.loop-i.i c.loop-i-test.true known.0 known.1) (omega arith) (λ e. c.if-step-eq-WRITE.false (c.step_at-step.ensures.kind_is ∙ e)),
-      sym (from_here _ (source_fault log) _ (omega arith) (sym c.is_faulty.ensures ∙ c.if-is_faulty.true)))
+    let known = c.loop-i.invariant in (
+      later_skip _ _ (behind log c.loop-i.i c.loop-i-test.true known.0 known.1) (omega arith) (λ e. c.if-step-eq-WRITE.false (c.step_at-step.ensures.kind_is ∙ e)),
+      sym (from_here _ (source_fault log) _ (omega arith) (sym c.is_faulty.ensures ∙ c.if-is_faulty.true)),
+    )
 
 pub loop-i-preserved : goal.loop-i-preserved
 unfolding steps
 loop-i-preserved c =
     let log = c.args.log.now in
-    let known = c.loop-i.invariant in
-    (later_skip _ _ (behind log c.loop-i.i c.loop-i-test.true known.0 known.1) (omega arith) (λ e. c.if-step-eq-WRITE.false (c.step_at-step.ensures.kind_is ∙ e)),
-      fault_stays log c.loop-i.i c.loop-i-test.true known.0 known.1 (sym c.is_faulty.ensures ∙ c.if-is_faulty.false))
+    let known = c.loop-i.invariant in (
+      later_skip _ _ (behind log c.loop-i.i c.loop-i-test.true known.0 known.1) (omega arith) (λ e. c.if-step-eq-WRITE.false (c.step_at-step.ensures.kind_is ∙ e)),
+      fault_stays log c.loop-i.i c.loop-i-test.true known.0 known.1 (sym c.is_faulty.ensures ∙ c.if-is_faulty.false),
+    )
 
 pub returns : goal.returns
 returns c = let e : c.loop-i.i ≡ 0 = omega arith in rw e at c.loop-i.invariant.1 ∙ from_first _ (source_fault c.args.log.now)

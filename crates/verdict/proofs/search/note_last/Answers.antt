@@ -1,5 +1,4 @@
 -- `note_last` meets its contract.
-use Rattle.std.proofs.Common.{ap, ◌∙◌}
 use Rattle.bits.proofs.Putting.{put_first, put_turn, put_last}
 use Rattle.verdict.proofs.search.note_last.Goals as goal
 

@@ -1,7 +1,6 @@
--- What the loop of `first_clash` keeps, and why it ends.
-use mathlib.Core.Path.{◌≡◌}
-use mathlib.Core.Bool.{false}
-use Prim.Native.Nat.{◌-◌, ◌≤◌}
+-- What the loops of `first_clash` keep.
+use Rattle.std.specs.Prelude.{None}
+use Rattle.std.proofs.Common.{◌≡◌, false}
 use Rattle.words.specs.Tests.{some}
 use Rattle.bits.specs.Word.{marked}
 use Rattle.verdict.specs.Limits.{transactions}
@@ -10,19 +9,10 @@ use Rattle.verdict.specs.Inner.Clashes.{LastCommits}
 use Rattle.verdict.proofs.snapshots.first_clash.Given as goal
 
 abbrev pub invariant-loop-x : goal.invariant-loop-x
-invariant-loop-x l = (l.x ≤ 64) × (some l.x (marked l.both) ≡ false)
-
-abbrev pub decreases-loop-x : goal.decreases-loop-x
-decreases-loop-x l = 64 - l.x
+invariant-loop-x l = (l.found ≡ None) × (some l.x (marked l.both) ≡ false)
 
 abbrev pub invariant-loop-p : goal.invariant-loop-p
-invariant-loop-p l = (l.p ≤ 129) × (some l.p (clash l.log l.j) ≡ false)
-
-abbrev pub decreases-loop-p : goal.decreases-loop-p
-decreases-loop-p l = 129 - l.p
+invariant-loop-p l = (l.found ≡ None) × (some l.p (clash l.log l.j) ≡ false)
 
 abbrev pub invariant-search : goal.invariant-search
-invariant-search l = (l.j ≤ l.k) × LastCommits l.log l.j l.last × (some l.j (wrong_commit transactions l.log) ≡ false)
-
-abbrev pub decreases-search : goal.decreases-search
-decreases-search l = l.k - l.j
+invariant-search l = (l.found ≡ None) × LastCommits l.log l.j l.last × (some l.j (wrong_commit transactions l.log) ≡ false)

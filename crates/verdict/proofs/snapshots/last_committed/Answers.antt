@@ -1,5 +1,5 @@
 -- `last_committed` meets its contract.
-use Rattle.std.proofs.Common.{◌≡◌, ◌∙◌, ◌-◌, ◌≤◌, ◌<◌, ◌*◌, List, ℕ, Bool, refl, sym, ap, length, arith}
+use Rattle.std.proofs.Common.{◌≡◌, ◌∙◌, ◌-◌, ◌≤◌, ◌<◌, ◌*◌, List, ℕ, refl, sym, ap, length, arith}
 use Rattle.words.proofs.Truth.{and_true, and_no_left, →is, →isnt}
 use Rattle.verdict.specs.Limits.{transactions}
 use Rattle.verdict.specs.Log.{steps, tx, writer, commits_writer}

@@ -49,7 +49,7 @@ step_at-step-requires c = omega (arith, c.requires.4)
 pub returns-then-step-ne-COMMIT : goal.returns-then-step-ne-COMMIT
 returns-then-step-ne-COMMIT c =
     let n : kind c.args.log.now c.args.j ≡ 4 → ⊥ = λ e. c.if-step-ne-COMMIT.true (c.step_at-step.ensures.kind_is ∙ e) in
-    record { last = other_step _ _ c.requires.3 n; nobody = λ _ p. no_commit _ _ p n; commit = λ h. absurd (h refl) }
+    record { last = other_step _ _ c.requires.3 n; told = λ p. no_commit _ _ p n }
 
 pub bounds-writes-index : goal.bounds-writes-index
 bounds-writes-index c = omega (arith, c.index.ensures, (in_range c.before.before.before.before).1)
@@ -64,7 +64,7 @@ overflow_cast-j c =
 pub returns-then-since : goal.returns-then-since
 returns-then-since c =
     let step_is = (here c.before.before).step_at-step.ensures in
-    record { last = last_then c.before.before c.put_marked.ensures; nobody = λ e. absurd (omega (arith, e, (in_range (here c.before.before)).0)); commit = λ _. (is_commit c.before.before, sym step_is.tx_is, (in_range (here c.before.before)).1) }
+    record { last = last_then c.before.before c.put_marked.ensures; told = (is_commit c.before.before, sym step_is.tx_is, (in_range (here c.before.before)).1) }
 
 pub returns : goal.returns
 returns c =
@@ -72,6 +72,5 @@ returns c =
     let begin = c.step_of.ensures ∙ begin_at _ _ (in_range (here c.before.before)).1 c.requires.2 ∙ ap (snapshot_step c.args.log.now) (sym index_is) in
     record {
       last = last_then c.before.before c.put_marked.ensures;
-      nobody = λ _. none_since _ _ c.requires.3 c.requires.1 (committing c.before.before) (omega (arith, index_is, (in_range (here c.before.before)).1)) (well_formed _ c.requires.0) begin (sym c.marked_above-since.ensures ∙ c.if-since.false);
-      commit = λ h. absurd (h refl);
+      told = none_since _ _ c.requires.3 c.requires.1 (committing c.before.before) (omega (arith, index_is, (in_range (here c.before.before)).1)) (well_formed _ c.requires.0) begin (sym c.marked_above-since.ensures ∙ c.if-since.false);
     }
