@@ -1,14 +1,18 @@
 -- What stands at the front of a text: a word, and a number up to the byte behind it.
 use mathlib.Core.Path.{◌≡◌, refl, sym, ap, ◌∙◌}
-use mathlib.Core.Bool.{true, false}
+use mathlib.Core.Bool.{Bool, true, false}
 use mathlib.Core.List.{List, [], ◌∷◌, ◌++◌, append_assoc}
 use Prim.Native.Nat.{ℕ, ◌+◌, ◌-◌, ◌*◌, ◌≤◌, ◌<◌}
 use native.Mathlib.Omega.{arith}
 use native.Mathlib.Numerals.{add-one}
-use lib.ListN.{length, get_or, drop, drop_of_length-le}
+use lib.ListN.{length, get_or, take, drop, drop_of_length-le}
 use lib.Seq.{drop-cons}
+use Rattle.std.specs.Cmp.Lexicographic.{pointwise}
+use Rattle.std.proofs.Math.Dec.{eqb}
+use Rattle.std.proofs.lemmas.Bool.Decides.{Decides-eqb}
+use Rattle.std.proofs.lemmas.Slice.Eq.{starts_is}
 use Rattle.words.specs.Tests.{◌and◌}
-use Rattle.words.proofs.Truth.{not_both, and→, →and, →is, is→, →isnt, and_no_left, upto→, →upto}
+use Rattle.words.proofs.Truth.{same_test, not_both, and→, →and, →is, is→, →isnt, and_no_left, upto→, →upto}
 use Rattle.text.specs.Decimal.{digit, decimal}
 use Rattle.text.specs.Line.{sayable, largest}
 use Rattle.text.specs.Inner.Finds.{starts, is_digit}
@@ -27,34 +31,6 @@ pub one_byte : (text : List ℕ) (i : ℕ) → i < length text → drop i text �
 one_byte text i h = rw (drop-cons text i 0, add-one i)
 
 -- A WORD
--- a word that agrees with the text from `at` on in its first i bytes, and what follows
-abbrev pub Agrees : (word text : List ℕ) (at i : ℕ) → Type 0
-Agrees word text at i = starts word (drop at text) ≡ starts (drop i word) (drop (at + i) text)
-
-pub agrees_none : (word text : List ℕ) (at : ℕ) → Agrees word text at 0
-agrees_none word text at = let e : at + 0 ≡ at = omega arith in rw e
-
-module _ (word text : List ℕ) (at i : ℕ) (so_far : Agrees word text at i) where
-  pub word_ends : length word ≤ i → true ≡ starts word (drop at text)
-  unfolding starts
-  word_ends h = sym (so_far ∙ rw (drop_of_length-le word h))
-
-  module _ (h : i < length word) where
-    pub text_ends : length text - at ≤ i → false ≡ starts word (drop at text)
-    unfolding starts
-    text_ends k = let l : length text ≤ at + i = omega arith in sym (so_far ∙ rw (drop_of_length-le text l, drop-cons word i 0))
-
-    pub word_differs : at + i < length text → (get_or text (at + i) 0 ≡ get_or word i 0 → ⊥) → false ≡ starts word (drop at text)
-    unfolding starts
-    word_differs k f =
-        sym (so_far ∙ rw (drop-cons word i 0, drop-cons text (at + i) 0) (and_no_left _ (→isnt (λ (e : get_or word i 0 ≡ get_or text (at + i) 0). f (sym e)))))
-
-    pub word_goes_on : at + i < length text → get_or text (at + i) 0 ≡ get_or word i 0 → Agrees word text at (i + 1)
-    unfolding starts ◌and◌
-    word_goes_on k e =
-        let l : at + (i + 1) ≡ at + i + 1 = omega arith in
-        so_far ∙ rw (one_byte word i h, one_byte text (at + i) k, →is (sym e), l)
-
 pub →starts : (word rest : List ℕ) → starts word (word ++ rest) ≡ true
 unfolding starts
 →starts [] rest = refl
@@ -68,6 +44,12 @@ starts→ (a ∷ word) (b ∷ bytes) h =
     let e : a ≡ b = is→ (and→ h).0 in
     let t : bytes ≡ word ++ drop (length word) bytes = starts→ word bytes (and→ h).1 in
     cc
+
+-- the library's test is that the bytes begin with this word
+pub stands_there : (word bytes : List ℕ) (t : Bool) → t ≡ pointwise eqb word (take (length word) bytes) → t ≡ starts word bytes
+stands_there word bytes t e =
+    let p = starts_is Decides-eqb bytes word t e in
+    same_test (λ h. rw (p.0 h) (→starts word _)) (λ h. p.1 _ (starts→ word bytes h))
 
 -- A NUMBER
 -- no number that a text can say stands at the front, with `behind` after it

@@ -47,9 +47,9 @@ module _ (bytes : List ℕ) where
   -- .. and which of the two it is
   pub header_by_end : (n end : ℕ) → Finds header sayable bytes 0 (Some (n, end)) → FindsHeader bytes (leb (length bytes) end)
   header_by_end n end f = elim (leb_tells (length bytes) end) [
-      | inl h ↦ rw h.0 (all_header n end f h.1)
-      | inr h ↦ rw h.0 (header_and_more n end f h.1)
-    ]
+    | inl h ↦ rw h.0 (all_header n end f h.1)
+    | inr h ↦ rw h.0 (header_and_more n end f h.1)
+  ]
 
   pub not_header : NoHeader bytes → IsHeader bytes → ⊥
   not_header f i = f i.n [] i.fine (by_itself (header i.n) i.whole)

@@ -6,6 +6,7 @@ use native.Mathlib.Omega.{arith}
 use native.Mathlib.Numerals.{add-one}
 use lib.ListN.{length, get_or, take, drop, set, length-append, length-drop, take-append-drop}
 use lib.Seq.{length-take-le, take_all, take-suc, take_at, drop_at, drop-drop, drop-cons, set_split, set_at}
+use borrow.Rule.Slice.PartMut.{put_mid}
 use Rattle.text.specs.Decimal.{digit, decimal}
 use Rattle.text.specs.Line.{item}
 use Rattle.text.specs.Inner.Put.{put_at, Fits, Puts}
@@ -131,22 +132,10 @@ module _ {A : Type 0} (line : A → List ℕ) {a b : A} (known : a ≡ b) (l : L
   pub known_puts : {next : ℕ} {l' : List ℕ} → Puts (line b) at l next l' → Puts (line a) at l next l'
   known_puts {next} {l'} = subst (λ (z : A). Puts (line z) at l next l') (sym known)
 
--- a word, byte by byte
-module _ (l word : List ℕ) (at : ℕ) (fits : Fits word at l) where
-  pub puts_none : l ≡ put_at at (take 0 word) l
-  puts_none = (puts_nothing l at).1
-
-  pub puts_more : (l' : List ℕ) (i : ℕ) → i < length word → l' ≡ put_at at (take i word) l → set l' (at + i) (get_or word i 0) ≡ put_at at (take (i + 1) word) l
-  puts_more l' i h e =
-      let b = get_or word i 0 in
-      let n : length (take i word) ≡ i = length-take-le i word (omega arith) in
-      ap (λ (u : List ℕ). set u (at + i) b) e
-      ∙ ap (λ (m : ℕ). set (put_at at (take i word) l) (at + m) b) (sym n)
-      ∙ put_more l (take i word) at b (omega arith)
-      ∙ ap (λ (u : List ℕ). put_at at u l) (sym (ap (λ (m : ℕ). take m word) (add-one i) ∙ take-suc word i 0 h))
-
-  pub puts_all : (l' : List ℕ) (i : ℕ) → length word ≤ i → i ≤ length word → l' ≡ put_at at (take i word) l → Puts word at l (at + i) l'
-  puts_all l' i h k e = (omega arith, e ∙ ap (λ (u : List ℕ). put_at at u l) (take_all i word h))
+-- a word, copied into the part that it fits
+pub puts_part : (l w v : List ℕ) (at k : ℕ) → k ≡ length w → v ≡ w → put_mid at k l v ≡ put_at at w l
+unfolding put_at
+puts_part l w v at k h e = rw (e, h) (ap (λ (u : List ℕ). take at l ++ (w ++ u)) (drop-drop (length w) at l) ∙ sym (append_assoc (take at l) w (drop (at + length w) l)))
 
 -- MEMBERS, ONE AFTER ANOTHER
 spelled_append : (v w : List Entry) → spelled_all (v ++ w) ≡ spelled_all v ++ spelled_all w

@@ -19,17 +19,7 @@ pub(crate) fn stands(text: &[u8], at: usize, word: &[u8]) -> bool
     requires { at ≤ length text.now }
     ensures { result ≡ starts word.now (drop at text.now) }
 {
-    let mut i = 0;
-    while i < word.len() {
-        if text.len() - at <= i {
-            return false;
-        }
-        if text[at + i] != word[i] {
-            return false;
-        }
-        i += 1;
-    }
-    true
+    text[at..].starts_with(word)
 }
 
 // The number at this place, which ends at the byte `behind`, and the place behind that byte.
@@ -45,8 +35,7 @@ fn number_at(text: &[u8], at: usize, behind: u8) -> Option<(u16, usize)>
         return None;
     }
     let mut value = (first - b'0') as usize;
-    let mut i = at + 1;
-    while i < text.len() {
+    for i in at + 1..text.len() {
         let b = text[i];
         if b == behind {
             return Some((value as u16, i + 1));
@@ -61,7 +50,6 @@ fn number_at(text: &[u8], at: usize, behind: u8) -> Option<(u16, usize)>
         if 65535 < value {
             return None;
         }
-        i += 1;
     }
     None
 }

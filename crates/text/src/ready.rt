@@ -15,11 +15,9 @@ pub(crate) fn put_low(out: &mut [u8], at: usize, w: u64, most: usize)
     ensures { out.new ≡ put_at at (low_bytes most w) out.old }
 {
     let mut rest = w;
-    let mut i = 0;
-    while i < most {
+    for i in 0..most {
         out[at + i] = (rest % 256) as u8;
         rest = rest / 256;
-        i += 1;
     }
 }
 

@@ -102,11 +102,9 @@ fn put_entries(out: &mut [u8], at: usize, list: &[u16], n: usize) -> usize
     ensures { Puts (spelled_all (entries_in n list.now)) at out.old result out.new }
 {
     let mut place = at;
-    let mut i = 0;
-    while i < n {
+    for i in 0..n {
         let k = 3 * i;
         place = put_member(out, place, list[k], list[k + 1], list[k + 2]);
-        i += 1;
     }
     place
 }

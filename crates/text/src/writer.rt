@@ -47,10 +47,8 @@ fn put_lines(out: &mut [u8], at: usize, log: &[u16]) -> usize
 {
     let digits = ready_digits();
     let mut place = at;
-    let mut i = 0;
-    while i < log.len() / 4 {
+    for i in 0..log.len() / 4 {
         place = put_line(out, place, &digits, log, i);
-        i += 1;
     }
     place
 }

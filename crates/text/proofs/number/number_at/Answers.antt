@@ -35,7 +35,7 @@ so_far : (c : In-loop-i) →
     let a = c.args in
     let l = c.loop-i in
     drop a.at a.text.now ≡ decimal l.value ++ get_or a.text.now l.i 0 ∷ drop (l.i + 1) a.text.now
-so_far c = read_to _ _ _ _ c.loop-i-test.true c.loop-i.invariant.2
+so_far c = read_to _ _ _ _ c.loop-i-test.true c.loop-i.invariant.1
 
 -- that byte is a digit
 byte_is : (c : Else-not-is_digit-2) →
@@ -44,9 +44,6 @@ byte_is c = sym c.is_digit-in-loop-i.ensures ∙ c.if-not-is_digit-2.false
 
 pub returns-then-text-at : goal.returns-then-text-at
 returns-then-text-at c = nothing_there _ _ _ c.if-text-at.true
-
-pub bounds-text-at : goal.bounds-text-at
-bounds-text-at c = omega arith
 
 pub returns-then-not-is_digit : goal.returns-then-not-is_digit
 returns-then-not-is_digit c = no_first_digit _ _ _ c.if-text-at.false (sym c.is_digit.ensures ∙ c.if-not-is_digit.true)
@@ -57,23 +54,11 @@ overflow_sub-value c = omega (arith, is_digit→ _ (first_is c.before))
 pub overflow_cast-value : goal.overflow_cast-value
 overflow_cast-value c = omega (arith, is_digit→ _ (first_is c.before))
 
-pub overflow_add-i : goal.overflow_add-i
-overflow_add-i c = omega arith
-
 pub loop-i-init : goal.loop-i-init
-loop-i-init c = (omega arith, omega (arith, is_digit→ _ (first_is c.before)), first_digit _ _ c.if-text-at.false (first_is c.before))
-
-pub bounds-text-i : goal.bounds-text-i
-bounds-text-i c = omega arith
-
-pub overflow_cast-result : goal.overflow_cast-result
-overflow_cast-result c = omega arith
-
-pub overflow_add-result : goal.overflow_add-result
-overflow_add-result c = omega arith
+loop-i-init c = (omega (arith, is_digit→ _ (first_is c.before)), first_digit _ _ c.if-text-at.false (first_is c.before))
 
 pub returns-then-b-behind : goal.returns-then-b-behind
-returns-then-b-behind c = (→sayable _ c.loop-i.invariant.1, omega arith, ends_at _ _ _ (so_far c.before.before.before) _ c.if-b-behind.true)
+returns-then-b-behind c = (→sayable _ c.loop-i.invariant.0, omega arith, ends_at _ _ _ (so_far c.before.before.before) _ c.if-b-behind.true)
 
 pub returns-then-not-is_digit-2 : goal.returns-then-not-is_digit-2
 returns-then-not-is_digit-2 c =
@@ -82,9 +67,6 @@ returns-then-not-is_digit-2 c =
 pub returns-then-value-eq0 : goal.returns-then-value-eq0
 returns-then-value-eq0 c =
     leading_zero _ c.requires _ _ _ _ (so_far c.before.before.before.before.before.before) c.if-value-eq0.true (byte_is c.before.before)
-
-pub overflow_mul-value : goal.overflow_mul-value
-overflow_mul-value c = omega arith
 
 pub overflow_sub-value-in-loop-i : goal.overflow_sub-value-in-loop-i
 overflow_sub-value-in-loop-i c = omega (arith, is_digit→ _ (byte_is c.before.before))
@@ -99,15 +81,8 @@ pub returns-then-value-gt65535 : goal.returns-then-value-gt65535
 returns-then-value-gt65535 c =
     too_large _ c.requires _ _ _ _ (so_far c.before.before.before.before.before.before.before) (byte_is c.before.before.before) c.if-value-gt65535.true
 
-pub overflow_add-i-in-loop-i : goal.overflow_add-i-in-loop-i
-overflow_add-i-in-loop-i c = omega arith
-
-pub loop-i-smaller : goal.loop-i-smaller
-loop-i-smaller c = omega arith
-
 pub loop-i-preserved : goal.loop-i-preserved
-loop-i-preserved c =
-    (omega arith, c.if-value-gt65535.false, goes_on _ _ _ (so_far c.before.before.before.before.before.before.before) (omega arith) (byte_is c.before.before.before))
+loop-i-preserved c = (c.if-value-gt65535.false, goes_on _ _ _ (so_far c.before.before.before.before.before.before.before) (omega arith) (byte_is c.before.before.before))
 
 pub returns : goal.returns
-returns c = ends_early _ c.requires _ _ (read_all _ _ _ _ c.loop-i-test.false c.loop-i.invariant.2)
+returns c = ends_early _ c.requires _ _ (read_all _ _ _ _ c.loop-i-test.false c.loop-i.invariant.1)

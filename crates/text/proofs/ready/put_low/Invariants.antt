@@ -1,6 +1,5 @@
--- What the loop of `put_low` keeps, and why it ends.
+-- What the loop of `put_low` keeps.
 use mathlib.Core.Path.{◌≡◌}
-use Prim.Native.Nat.{◌≤◌, ◌-◌}
 use lib.ListN.{length}
 use Rattle.text.specs.Inner.Put.{put_at}
 use Rattle.text.specs.Inner.Ready.{low_bytes}
@@ -9,7 +8,4 @@ use Rattle.text.proofs.ready.put_low.Given as goal
 
 abbrev pub invariant-loop-i : goal.invariant-loop-i
 invariant-loop-i l =
-    (l.i ≤ l.most) × (length l.out ≡ length l.initial.out) × (l.rest ≡ rest_of l.i l.w) × (l.out ≡ put_at l.at (low_bytes l.i l.w) l.initial.out)
-
-abbrev pub decreases-loop-i : goal.decreases-loop-i
-decreases-loop-i l = l.most - l.i
+    (length l.out ≡ length l.initial.out) × (l.rest ≡ rest_of l.i l.w) × (l.out ≡ put_at l.at (low_bytes l.i l.w) l.initial.out)
