@@ -11,7 +11,7 @@ mod reach;
 mod rows;
 mod sets;
 
-ghost use Rattle.std.specs.Prelude.{◌≡◌, true, ◌≤◌, take};
+ghost use Rattle.std.specs.Prelude.{◌≡◌, true, take};
 ghost use Rattle.graph.specs.Matrix.{vertices, matrix_order, Sorts, Follows};
 
 pub use lent::{lent_drop, lent_join, lent_row};
@@ -37,10 +37,9 @@ pub struct Members {
 impl Members {
     // The members alone.
     pub fn as_slice(&self) -> &[u16]
-        requires { self.now.count ≤ vertices }
         ensures { result.now ≡ take self.now.count self.now.list }
     {
-        &self.list[..self.count]
+        &self.list[..self.count.min(VERTICES)]
     }
 }
 
