@@ -28,7 +28,7 @@ pub const WORDS: usize = 2;
 pub const ROWS: usize = VERTICES * WORDS;
 
 // The members of a list, with zeros behind them, and how many they are.
-#[derive(Drop, Clone, Copy, PartialEq, Eq)]
+#[derive(Drop, Clone, Copy)]
 pub struct Members {
     pub list: [u16; VERTICES],
     pub count: usize,
@@ -44,7 +44,7 @@ impl Members {
 }
 
 // What `sort` shows: an order of all vertices that take part, or a cycle.
-#[derive(Drop, Clone, Copy, PartialEq, Eq)]
+#[derive(Drop, Clone, Copy)]
 pub enum Shown {
     Order(Members),
     Cycle(Members),
