@@ -7,7 +7,7 @@ ghost use Rattle.bits.specs.Walk.{GivesLowest};
 use super::{any_mark, lowest_mark, without_mark};
 
 // The marks that are still to come.
-#[derive(Drop)]
+#[derive(Drop, Clone)]
 pub struct EachMark(pub u64);
 
 impl Iterator for EachMark {

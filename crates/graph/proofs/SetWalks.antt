@@ -85,9 +85,6 @@ pub record Sought (passes : ℕ → Bool) (layer rest : List ℕ) : Type 0 where
   pub two : length rest ≡ 2
   pub same : lowest 129 (λ u. takes_part 128 rest u and passes u) ≡ lowest 129 (λ u. takes_part 128 layer u and passes u)
 
-pub sought_none : (passes : ℕ → Bool) (layer : List ℕ) → length layer ≡ 2 → Sought passes layer layer
-sought_none passes layer two = record { two = two; same = refl }
-
 module _ {passes : ℕ → Bool} {layer rest : List ℕ} (s : Sought passes layer rest) where
   module _ {u : ℕ} {others : List ℕ} (turn : Turn rest u others) where
     pub sought_here : passes u ≡ true → IsLowest (λ v. takes_part 128 layer v and passes v) u

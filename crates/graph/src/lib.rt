@@ -11,7 +11,7 @@ mod reach;
 mod rows;
 mod sets;
 
-ghost use Rattle.std.specs.Prelude.{◌≡◌, true, ◌≤◌, take};
+ghost use Rattle.std.specs.Prelude.{◌≡◌, true, take};
 ghost use Rattle.graph.specs.Matrix.{vertices, matrix_order, Sorts, Follows};
 
 pub use lent::{lent_drop, lent_join, lent_row};
@@ -28,7 +28,7 @@ pub const WORDS: usize = 2;
 pub const ROWS: usize = VERTICES * WORDS;
 
 // The members of a list, with zeros behind them, and how many they are.
-#[derive(Drop, Clone, Copy, PartialEq, Eq)]
+#[derive(Drop, Clone, Copy)]
 pub struct Members {
     pub list: [u16; VERTICES],
     pub count: usize,
@@ -37,15 +37,14 @@ pub struct Members {
 impl Members {
     // The members alone.
     pub fn as_slice(&self) -> &[u16]
-        requires { self.now.count ≤ vertices }
         ensures { result.now ≡ take self.now.count self.now.list }
     {
-        &self.list[..self.count]
+        &self.list[..self.count.min(VERTICES)]
     }
 }
 
 // What `sort` shows: an order of all vertices that take part, or a cycle.
-#[derive(Drop, Clone, Copy, PartialEq, Eq)]
+#[derive(Drop, Clone, Copy)]
 pub enum Shown {
     Order(Members),
     Cycle(Members),

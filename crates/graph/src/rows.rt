@@ -6,6 +6,8 @@ ghost use Rattle.graph.specs.Inner.Rows.{PutRow};
 use super::lent::{lent_join, lent_row};
 use super::{ROWS, WORDS};
 
+// Both names stay: rows in an array ask nothing of a caller, and rows lent as a slice (`lent_row`, `lent_join`) have to have their length.
+
 // The row of b; it has no vertex where b is none.
 pub fn row(m: &[u64; ROWS], b: usize) -> [u64; WORDS]
     ensures { (a : ℕ) → takes_part vertices result a ≡ in_row m.now b a }

@@ -105,7 +105,7 @@ pub(crate) fn above(those: [u64; WORDS], s: usize) -> [u64; WORDS]
 }
 
 // A walk over the vertices of a set, the lowest first: those that are still to come.
-#[derive(Drop)]
+#[derive(Drop, Clone)]
 pub(crate) struct EachVertex(pub [u64; WORDS]);
 
 impl Iterator for EachVertex {

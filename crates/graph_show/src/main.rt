@@ -4,7 +4,7 @@
 
 mod make;
 
-use graph::{Members, ROWS, Shown, VERTICES, WORDS};
+use graph::{Members, ROWS, Shown, WORDS};
 use std::io;
 
 // Writes the graph's name.
@@ -24,7 +24,7 @@ fn name(rt: &impl Print, number: u64) -> io::Result<()> {
 
 // Writes the members, and ends the line.
 fn list(rt: &impl Print, shown: Members) -> io::Result<()> {
-    for v in shown.list.iter().take(shown.count) {
+    for v in shown.as_slice() {
         print!(rt; " {v}")?;
     }
     println!(rt)
@@ -52,25 +52,12 @@ fn after(
     Ok(next)
 }
 
-// The same after the members of a list.
-fn later(
-    rt: &impl Print,
-    m: &[u64; ROWS],
-    part: [u64; WORDS],
-    given: Members,
-) -> io::Result<Option<Members>> {
-    if VERTICES < given.count {
-        return Ok(None);
-    }
-    after(rt, m, part, &given.list[..given.count])
-}
-
 // Writes up to four later orders.
 fn nexts(rt: &impl Print, m: &[u64; ROWS], part: [u64; WORDS], first: Members) -> io::Result<()> {
     let mut last = Some(first);
     for _ in 0..4 {
         if let Some(given) = last {
-            last = later(rt, m, part, given)?;
+            last = after(rt, m, part, given.as_slice())?;
         }
     }
     Ok(())

@@ -33,12 +33,6 @@ pub draw-requires : goal.draw-requires
 unfolding zeros
 draw-requires c = let q = c.requires in (q.0, q.1, no_edges refl)
 
-pub as_slice-requires : goal.as_slice-requires
-as_slice-requires c = (order_front (goal.at.as_slice-requires c).In-Order).few
-
-pub as_slice-requires-in-Cycle : goal.as_slice-requires-in-Cycle
-as_slice-requires-in-Cycle c = (cycle_front (goal.at.as_slice-requires-in-Cycle c).In-Cycle).few
-
 pub conflict_cycle-requires : goal.conflict_cycle-requires
 conflict_cycle-requires c =
     let q = c.requires in

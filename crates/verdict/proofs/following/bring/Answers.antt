@@ -10,9 +10,6 @@ use Rattle.verdict.proofs.following.bring.Goals as goal
 front : (c : In-Some) → Front c.in-Some.later.list c.in-Some.later.count c.in-Some.ensures.members
 front c = let f = c.in-Some.ensures in front_of f.listed (search rules) f.counted
 
-pub as_slice-requires : goal.as_slice-requires
-as_slice-requires c = (front (goal.at.as_slice-requires c).In-Some).few
-
 pub returns-in-Some : goal.returns-in-Some
 returns-in-Some c = brings_order c.in-Some.ensures.right (c.as_slice.ensures ∙ (front (goal.at.returns-in-Some c).In-Some).same) c.an_order.ensures
 

@@ -43,12 +43,6 @@ pub draw-requires : goal.draw-requires
 unfolding zeros
 draw-requires c = let q = c.requires in (q.0, q.2, q.3, no_edges refl)
 
-pub as_slice-requires : goal.as_slice-requires
-as_slice-requires c = (order_front (goal.at.as_slice-requires c).In-Order).few
-
-pub as_slice-requires-in-Cycle : goal.as_slice-requires-in-Cycle
-as_slice-requires-in-Cycle c = (cycle_front (goal.at.as_slice-requires-in-Cycle c).In-Cycle).few
-
 pub version_cycle-requires : goal.version_cycle-requires
 version_cycle-requires c =
     let q = c.requires in
