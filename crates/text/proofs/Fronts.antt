@@ -11,8 +11,7 @@ use Rattle.std.specs.Cmp.Lexicographic.{pointwise}
 use Rattle.std.proofs.Math.Dec.{eqb}
 use Rattle.std.proofs.lemmas.Bool.Decides.{Decides-eqb}
 use Rattle.std.proofs.lemmas.Slice.Eq.{starts_is}
-use Rattle.words.specs.Tests.{◌and◌}
-use Rattle.words.proofs.Truth.{same_test, not_both, and→, →and, →is, is→, →isnt, and_no_left, upto→, →upto}
+use Rattle.words.proofs.Truth.{same_test, not_both, and→, →and, →is, is→, upto→, →upto}
 use Rattle.text.specs.Decimal.{digit, decimal}
 use Rattle.text.specs.Line.{sayable, largest}
 use Rattle.text.specs.Inner.Finds.{starts, is_digit}

@@ -5,7 +5,7 @@ use Prim.Native.Nat.{ℕ, suc, ◌+◌, ◌*◌, ◌/◌, ◌%◌, ◌≤◌, �
 use native.Mathlib.Omega.{arith}
 use native.Mathlib.Numerals.{add-one}
 use lib.ListN.{length, get_or, take, drop, set, length-append, length-drop, take-append-drop}
-use lib.Seq.{length-take-le, take_all, take-suc, take_at, drop_at, drop-drop, drop-cons, set_split, set_at}
+use lib.Seq.{length-take-le, take-suc, take_at, drop_at, drop-drop, drop-cons, set_split, set_at}
 use borrow.Rule.Slice.PartMut.{put_mid}
 use Rattle.text.specs.Decimal.{digit, decimal}
 use Rattle.text.specs.Line.{item}

@@ -10,7 +10,6 @@ use Rattle.verdict.specs.Conflict.{Conflict}
 use Rattle.verdict.specs.Version.{Version}
 use Rattle.verdict.specs.Exact.{Exact}
 use Rattle.verdict.specs.Answers.{Passed, Refused}
-use Rattle.verdict.specs.declared.answers.Refusal.{Refusal}
 use Rattle.text.specs.Bytes.{bytes}
 use Rattle.text.specs.Line.{header}
 use Rattle.text.specs.Reading.{Says, Reading}
