@@ -9,8 +9,7 @@ use lib.ListN.{length, get_or, set, length-set}
 use Rattle.words.specs.Tests.{◌is◌}
 use Rattle.words.proofs.Truth.{decide, is→, isnt→}
 use Rattle.live.specs.Inner.Table.{cell, name_at, sees_at, open_at}
-use Rattle.live.specs.Inner.Held.{Place}
-use Rattle.live.specs.Inner.Places.{FoundAt, CopiesRow, Given}
+use Rattle.live.specs.Inner.Places.{CopiesRow, Given}
 use Rattle.live.proofs.Cells.{Copying, stored_same, stored_other}
 
 pub one_up : {r : ℕ} → (r ≡ 0 → ⊥) → 1 ≤ r
@@ -25,15 +24,10 @@ pub open_is : (opened : List ℕ) (p : ℕ) {t : ℕ} → get_or opened (p - 1) 
 unfolding open_at
 open_is opened p e = e
 
-pub found_at : {opened : List ℕ} {n t r : ℕ} → Place n r → open_at opened r ≡ t → FoundAt opened n t r
-found_at u e = record { there = λ _. (u.1, e); nowhere = λ z. absurd (omega (arith, u.0)) }
-
-pub found_nowhere : {opened : List ℕ} {n t : ℕ} → ((q : ℕ) → 1 ≤ q → q ≤ n → open_at opened q ≡ t → ⊥) → FoundAt opened n t 0
-found_nowhere none = record { there = λ h. absurd (omega arith); nowhere = λ _ p u e. none p u.0 u.1 e }
-
-pub passed_one : (opened : List ℕ) {n t : ℕ} (p : ℕ) → 1 ≤ p → (get_or opened (p - 1) 0 ≡ t → ⊥) → ((q : ℕ) → p < q → q ≤ n → open_at opened q ≡ t → ⊥) → (q : ℕ) → p - 1 < q → q ≤ n → open_at opened q ≡ t → ⊥
+-- not at p, nor at any place from there on
+pub passed_one : (opened : List ℕ) {n t : ℕ} (p : ℕ) → (get_or opened (p - 1) 0 ≡ t → ⊥) → ((q : ℕ) → p < q → q ≤ n → open_at opened q ≡ t → ⊥) → (q : ℕ) → p ≤ q → q ≤ n → open_at opened q ≡ t → ⊥
 unfolding open_at
-passed_one opened {n} {t} p low here none q l h e = go (decide (q is p))
+passed_one opened {n} {t} p here none q l h e = go (decide (q is p))
   where
     go : ((q is p) ≡ true) ⊎ ((q is p) ≡ false) → ⊥
     go (inl z) = here (subst (λ (i : ℕ). get_or opened (i - 1) 0 ≡ t) (is→ {m = q} {n = p} z) e)
@@ -68,7 +62,7 @@ used_more rows p e d f q l k = go (decide (q is p))
     go (inl z) = let y : q ≡ p = is→ z in subst (λ (i : ℕ). 1 ≤ i) (e ∙ ap (name_at rows) (sym y)) (one_up d)
     go (inr z) = let y : q ≡ p → ⊥ = isnt→ z in f q l (omega arith)
 
-pub free_more : (rows : List ℕ) {m n : ℕ} (p : ℕ) → n ≡ name_at rows p → n ≡ 0 → ((q : ℕ) → p < q → q ≤ m → name_at rows q ≡ 0) → (q : ℕ) → p - 1 < q → q ≤ m → name_at rows q ≡ 0
+pub free_more : (rows : List ℕ) {m n : ℕ} (p : ℕ) → n ≡ name_at rows p → n ≡ 0 → ((q : ℕ) → p < q → q ≤ m → name_at rows q ≡ 0) → (q : ℕ) → p ≤ q → q ≤ m → name_at rows q ≡ 0
 free_more rows p e z f q l k = go (decide (q is p))
   where
     go : ((q is p) ≡ true) ⊎ ((q is p) ≡ false) → name_at rows q ≡ 0

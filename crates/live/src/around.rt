@@ -89,13 +89,11 @@ pub(crate) fn find_around(rows: &[u16], marks: &[u64], p: usize, n: usize) -> Ar
 {
     let mut before = [0u64; WORDS];
     let mut after = [0u64; WORDS];
-    let mut q: usize = 1;
-    while q <= n {
+    for q in 1..n + 1 {
         let wider = with_if(before, q, is_before(rows, marks, q, p));
         before = wider;
         let further = with_if(after, q, is_after(rows, marks, q, p));
         after = further;
-        q += 1;
     }
     Around { before, after }
 }
@@ -126,9 +124,7 @@ pub(crate) fn join_around(
         return;
     }
     let only = with_vertex([0u64; WORDS], p);
-    let mut q: usize = 1;
-    while q <= n {
+    for q in 1..n + 1 {
         join_one(edges, only, after, q);
-        q += 1;
     }
 }

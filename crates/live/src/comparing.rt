@@ -5,7 +5,7 @@ ghost use Rattle.bits.specs.Word.{marked, less};
 ghost use Rattle.live.specs.Inner.Table.{row_numbers, sees_at};
 
 use crate::table::seen;
-use bits::{any_mark, lowest_mark, without_mark};
+use bits::{EachMark, without_mark};
 
 // The marks, without x where what is seen of it differs.
 fn agreeing(marks: u64, x: usize, a: u16, b: u16) -> u64
@@ -23,11 +23,8 @@ pub(crate) fn alike(rows: &[u16], marks: u64, p: usize, q: usize) -> u64
     ensures { (x : ℕ) → x < 64 → marked result x ≡ (marked marks x and sees_at rows.now p x is sees_at rows.now q x) }
 {
     let mut same = marks;
-    let mut left = marks;
-    while any_mark(left) {
-        let x = lowest_mark(left);
+    for x in EachMark(marks) {
         same = agreeing(same, x, seen(rows, p, x), seen(rows, q, x));
-        left = without_mark(left, x);
     }
     same
 }

@@ -53,10 +53,8 @@ fn lowest_until(rows: &[u16], n: usize) -> u16
     ensures { LowUntil rows.now n result }
 {
     let mut low: u16 = 65535;
-    let mut i: usize = 1;
-    while i <= n {
+    for i in 1..n + 1 {
         low = low_with(rows, i, low);
-        i += 1;
     }
     low
 }
@@ -67,8 +65,7 @@ fn find_holder(opened: &[u16], n: usize, bar: u16) -> u16
 {
     let mut holder: u16 = 0;
     let mut highest: u16 = 0;
-    let mut i: usize = 0;
-    while i < n {
+    for i in 0..n {
         let t = opened[i];
         if highest < t {
             if t <= bar {
@@ -76,7 +73,6 @@ fn find_holder(opened: &[u16], n: usize, bar: u16) -> u16
                 holder = i as u16 + 1;
             }
         }
-        i += 1;
     }
     holder
 }

@@ -5,7 +5,7 @@ ghost use Rattle.live.specs.Inner.Table.{row_numbers, mark_words, writes_at};
 ghost use Rattle.live.specs.Inner.Noting.{NotesRead, PutsLast, noted_status};
 
 use crate::table::{SEES, STATUS, WIDTH, WRONG, reads, seen, writes};
-use bits::{any_mark, has_mark, lowest_mark, with_mark, without_mark};
+use bits::{EachMark, has_mark, with_mark};
 
 // Place p writes x.
 pub(crate) fn note_write(marks: &mut [u64], p: usize, x: usize)
@@ -47,10 +47,7 @@ pub(crate) fn put_last(rows: &mut [u16], marks: u64, t: u16)
     requires { length rows.old ≡ row_numbers }
     ensures { PutsLast rows.old marks t rows.new }
 {
-    let mut left = marks;
-    while any_mark(left) {
-        let x = lowest_mark(left);
+    for x in EachMark(marks) {
         rows[SEES + x] = t;
-        left = without_mark(left, x);
     }
 }

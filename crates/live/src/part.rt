@@ -37,8 +37,7 @@ pub(crate) fn take_part(
         (table opened.new rows.new marks.new edges.new) answers.new }
 {
     let mut state = live;
-    let mut i: usize = 0;
-    while i < answers.len() {
+    for i in 0..answers.len() {
         let a = 4 * i;
         let told = state.take(
             opened,
@@ -53,7 +52,6 @@ pub(crate) fn take_part(
         state = told.live;
         let said = told.said;
         answers[i] = number_of(said);
-        i += 1;
     }
     state
 }

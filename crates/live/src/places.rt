@@ -20,30 +20,28 @@ fn is_at(opened: &[u16], n: usize, t: u16, p: usize) -> bool
     opened[p - 1] == t
 }
 
-// The place of the open transaction t, of the first n, looked for from the newest on; 0 where it has none.
-fn search_place(opened: &[u16], n: usize, t: u16) -> usize
+// The place of the open transaction t, of the first n, looked for from the newest on.
+fn search_place(opened: &[u16], n: usize, t: u16) -> Option<usize>
     requires { (length opened.now ≡ opened_entries) × (n ≤ 128) }
     ensures { FoundAt opened.now n t result }
 {
-    let mut p = n;
-    while 0 < p {
+    for p in (1..n + 1).rev() {
         if opened[p - 1] == t {
-            return p;
+            return Some(p);
         }
-        p -= 1;
     }
-    0
+    None
 }
 
 // The same. It is tried first where the last one with the low bits of t began.
-pub(crate) fn place_of(opened: &[u16], n: usize, t: u16) -> usize
+pub(crate) fn place_of(opened: &[u16], n: usize, t: u16) -> Option<usize>
     requires { (length opened.now ≡ opened_entries) × (n ≤ 128) }
     ensures { FoundAt opened.now n t result }
 {
     let low = t as usize % PLACES;
     let p = opened[PLACES + low] as usize;
     if is_at(opened, n, t, p) {
-        return p;
+        return Some(p);
     }
     search_place(opened, n, t)
 }
@@ -53,14 +51,12 @@ pub(crate) fn free_place(rows: &[u16], n: usize) -> usize
     requires { (length rows.now ≡ row_numbers) × (n ≤ 128) }
     ensures { FreePlace rows.now n result }
 {
-    let mut p: usize = 1;
-    while p <= n {
+    for p in 1..n + 1 {
         if name(rows, p) == 0 {
             return p;
         }
-        p += 1;
     }
-    p
+    n + 1
 }
 
 // Row p sees what row 0 sees.
@@ -68,10 +64,8 @@ fn copy_row(rows: &mut [u16], p: usize)
     requires { (length rows.old ≡ row_numbers) × (1 ≤ p) × (p ≤ 128) }
     ensures { CopiesRow rows.old p rows.new }
 {
-    let mut x: usize = 0;
-    while x < OBJECTS {
+    for x in 0..OBJECTS {
         rows[p * WIDTH + SEES + x] = rows[SEES + x];
-        x += 1;
     }
 }
 

@@ -31,10 +31,8 @@ fn least_open(opened: &[u16], n: usize) -> u16
     ensures { LeastOpen opened.now n result }
 {
     let mut least: u16 = 0;
-    let mut i: usize = 0;
-    while i < n {
+    for i in 0..n {
         least = lower(least, opened[i]);
-        i += 1;
     }
     least
 }
@@ -81,10 +79,8 @@ fn leave(edges: &mut [u64], p: usize, n: usize)
     requires { (length edges.old ≡ edge_words) × (1 ≤ p) × (p ≤ 128) × (n ≤ 128) }
     ensures { Leaves edges.old p (suc n) edges.new }
 {
-    let mut q: usize = 1;
-    while q <= n {
+    for q in 1..n + 1 {
         lent_drop(edges, p, q);
-        q += 1;
     }
 }
 
@@ -107,10 +103,8 @@ fn pass(rows: &mut [u16], edges: &mut [u64], least: u16, n: usize) -> bool
     ensures { (opened : List ℕ) → LeastOpen opened n least → Passes opened rows.old edges.old n least rows.new edges.new result }
 {
     let mut gone = false;
-    let mut p: usize = 1;
-    while p <= n {
+    for p in 1..n + 1 {
         gone = look_at(rows, edges, least, p, n, gone);
-        p += 1;
     }
     gone
 }
@@ -132,12 +126,10 @@ fn last_used(rows: &[u16], n: usize) -> usize
     requires { (length rows.now ≡ row_numbers) × (n ≤ 128) }
     ensures { LastUsed rows.now n result }
 {
-    let mut p = n;
-    while 0 < p {
+    for p in (1..n + 1).rev() {
         if name(rows, p) != 0 {
             return p;
         }
-        p -= 1;
     }
     0
 }

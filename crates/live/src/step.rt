@@ -4,7 +4,7 @@ ghost use Rattle.words.specs.Tests.{◌is◌, ◌below◌, ◌or◌, provided◌
 ghost use Rattle.live.specs.Kept.{places};
 ghost use Rattle.live.specs.Inner.Table.{Sized, opened_entries, row_numbers, mark_words, edge_words, open_at};
 ghost use Rattle.live.specs.Inner.Held.{Place};
-ghost use Rattle.live.specs.Inner.Took.{range_number, rows_breach, table, Settles, Took, Takes};
+ghost use Rattle.live.specs.Inner.Took.{range_number, FirstApplies, rows_breach, table, Settles, Took, Takes};
 
 use crate::answers::{BREACH, CLOSED, Said};
 use crate::around::{find_around, join_around};
@@ -37,38 +37,35 @@ pub(crate) struct Told {
 fn objects_of(k: u16) -> u16
     ensures { result ≡ (provided k is 2 or k is 3 then 64 else 1) }
 {
-    if k == 2 {
-        return 64;
+    match k {
+        2 | 3 => 64,
+        _ => 1,
     }
-    if k == 3 {
-        return 64;
-    }
-    1
 }
 
-// The first of 3 to 6 that applies to a step; 0 if none does.
-fn range_number(k: u16, t: u16, x: u16, s: u16) -> u16
-    ensures { result ≡ range_number k t x s }
+// The first of 3 to 6 that applies to a step.
+fn range_number(k: u16, t: u16, x: u16, s: u16) -> Option<u16>
+    ensures { FirstApplies k t x s result }
 {
     if k < 1 {
-        return 3;
+        return Some(3);
     }
     if 5 < k {
-        return 3;
+        return Some(3);
     }
     if t < 1 {
-        return 4;
+        return Some(4);
     }
     if objects_of(k) <= x {
-        return 5;
+        return Some(5);
     }
     if s == 0 {
-        return 0;
+        return None;
     }
     if k == 2 {
-        return 0;
+        return None;
     }
-    6
+    Some(6)
 }
 
 // Whether a commit at place p is a breach: a wrong read, or another wrote since what it writes.
@@ -294,8 +291,7 @@ impl Live {
                 said: Said::CycleClosed,
             };
         }
-        let number = range_number(k, t, x, s);
-        if number != 0 {
+        if let Some(number) = range_number(k, t, x, s) {
             return Told {
                 live: self,
                 said: Said::Refused(number),
@@ -304,13 +300,12 @@ impl Live {
         if k == 1 {
             return self.begin(opened, rows, marks, t);
         }
-        let p = place_of(opened, self.count, t);
-        if p == 0 {
-            return Told {
+        match place_of(opened, self.count, t) {
+            None => Told {
                 live: self,
                 said: Said::Refused(8),
-            };
+            },
+            Some(p) => self.inside(opened, rows, marks, edges, p, k, t, x, s),
         }
-        self.inside(opened, rows, marks, edges, p, k, t, x, s)
     }
 }

@@ -1,13 +1,12 @@
 -- What the private functions that find and give places promise.
-use Rattle.std.specs.Prelude.{◌≡◌, List, ℕ, suc, ◌+◌, ◌-◌, ◌*◌, ◌%◌, ◌≤◌, ◌<◌, length, set}
+use Rattle.std.specs.Prelude.{◌≡◌, List, ℕ, suc, ◌+◌, ◌-◌, ◌*◌, ◌%◌, ◌≤◌, ◌<◌, length, set, Option, MatchOption}
 use Rattle.verdict.specs.Limits.{objects}
 use Rattle.live.specs.Inner.Table.{cell, name_at, sees_at, open_at}
 use Rattle.live.specs.Inner.Held.{Place}
 
--- r is a place of the first n at which t is open; 0 where there is none
-pub record FoundAt (opened : List ℕ) (n t r : ℕ) : Type 0 where
-  pub there : 1 ≤ r → (r ≤ n) × (open_at opened r ≡ t)
-  pub nowhere : r ≡ 0 → (p : ℕ) → Place n p → open_at opened p ≡ t → ⊥
+-- a place of the first n at which t is open, or there is none
+abbrev pub FoundAt : (opened : List ℕ) (n t : ℕ) → Option ℕ → Type 0
+FoundAt opened n t found = MatchOption found ((p : ℕ) → Place n p → open_at opened p ≡ t → ⊥) (λ p. Place n p × (open_at opened p ≡ t))
 
 -- r is the lowest of the first n places that is free; the one behind them where none is
 pub record FreePlace (rows : List ℕ) (n r : ℕ) : Type 0 where

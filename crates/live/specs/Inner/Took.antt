@@ -1,5 +1,5 @@
 -- What the private functions that take a step promise.
-use Rattle.std.specs.Prelude.{◌≡◌, Bool, false, List, ℕ, ◌-◌, ◌≤◌, ◌<◌, length, set}
+use Rattle.std.specs.Prelude.{◌≡◌, Bool, false, List, ℕ, ◌-◌, ◌≤◌, ◌<◌, length, set, Option, MatchOption}
 use Rattle.words.specs.Tests.{◌is◌, ◌upto◌, ◌and◌, ◌or◌, fails, provided◌then◌else◌, some}
 use Rattle.bits.specs.Word.{marked}
 use Rattle.verdict.specs.Limits.{objects}
@@ -22,6 +22,10 @@ range_number k t x s =
     else provided fails (object_allowed k x) then 5
     else provided fails (k is 2 or s is 0) then 6
     else 0
+
+-- the first of 3 to 6 that applies, or none does
+abbrev pub FirstApplies : (k t x s : ℕ) → Option ℕ → Type 0
+FirstApplies k t x s found = MatchOption found (0 ≡ range_number k t x s) (λ n. (n ≡ range_number k t x s) × (n ≡ 0 → ⊥))
 
 -- a commit at place p would be a breach, as the rows say it
 unfoldable pub rows_breach : List ℕ → List ℕ → ℕ → Bool

@@ -4,33 +4,17 @@ use Rattle.live.proofs.AroundLaws.{found_none, found_more, found_all}
 use Rattle.live.proofs.around.find_around.Goals as goal
 
 pub loop-q-init : goal.loop-q-init
-loop-q-init c = let q = c.requires in (omega arith, omega arith, q.4, q.2, q.3, q.0, q.1, found_none _ 2, found_none _ 2)
+loop-q-init c = let q = c.requires in (q.4, q.2, q.3, q.0, q.1, found_none _ 2, found_none _ 2)
 
 pub is_before-requires : goal.is_before-requires
-is_before-requires c = let i = c.loop-q.invariant in (i.5, i.6, i.0, omega arith, i.3, i.4)
+is_before-requires c = let i = c.loop-q.invariant in (i.3, i.4, (omega arith), omega arith, i.1, i.2)
 
 pub is_after-requires : goal.is_after-requires
-is_after-requires c = let i = c.loop-q.invariant in (i.5, i.6, i.0, omega arith, i.3, i.4)
-
-pub overflow_add-q : goal.overflow_add-q
-overflow_add-q c = omega arith
-
-pub loop-q-smaller : goal.loop-q-smaller
-loop-q-smaller c = omega arith
+is_after-requires c = let i = c.loop-q.invariant in (i.3, i.4, (omega arith), omega arith, i.1, i.2)
 
 pub loop-q-preserved : goal.loop-q-preserved
 loop-q-preserved c =
-    let i = c.loop-q.invariant in (
-      omega arith,
-      omega arith,
-      i.2,
-      i.3,
-      i.4,
-      i.5,
-      i.6,
-      found_more _ _ _ i.0 (omega arith) i.7 c.is_before.ensures c.with_if-wider.ensures,
-      found_more _ _ _ i.0 (omega arith) i.8 c.is_after.ensures c.with_if-further.ensures,
-    )
+    let i = c.loop-q.invariant in (i.0, i.1, i.2, i.3, i.4, found_more _ _ _ (omega arith) (omega arith) i.5 c.is_before.ensures c.with_if-wider.ensures, found_more _ _ _ (omega arith) (omega arith) i.6 c.is_after.ensures c.with_if-further.ensures)
 
 pub returns : goal.returns
-returns c = let i = c.loop-q.invariant in (found_all _ _ _ (omega arith) i.7, found_all _ _ _ (omega arith) i.8)
+returns c = let i = c.loop-q.invariant in (found_all _ _ _ (omega arith) i.5, found_all _ _ _ (omega arith) i.6)

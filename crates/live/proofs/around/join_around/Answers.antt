@@ -13,27 +13,20 @@ returns-then-not-any c =
     joining_before p.0 p.1 p.2 p.3 (sym c.any.ensures ∙ c.if-not-any.true) c.lent_join.ensures
 
 pub loop-q-init : goal.loop-q-init
-loop-q-init c = let q = c.requires in (omega arith, omega arith, q.3, c.lent_join.ensures.size ∙ q.0, joining_none _ _ _)
+loop-q-init c = let q = c.requires in (q.3, c.lent_join.ensures.size ∙ q.0, joining_none _ _ _)
 
 pub join_one-requires : goal.join_one-requires
-join_one-requires c = let i = c.loop-q.invariant in i.4.size ∙ i.3
-
-pub overflow_add-q : goal.overflow_add-q
-overflow_add-q c = omega arith
-
-pub loop-q-smaller : goal.loop-q-smaller
-loop-q-smaller c = omega arith
+join_one-requires c = let i = c.loop-q.invariant in i.2.size ∙ i.1
 
 pub loop-q-preserved : goal.loop-q-preserved
 loop-q-preserved c =
     let i = c.loop-q.invariant in
-    let p = c.requires in
-    (omega arith, omega arith, i.2, i.3, joining_more p.1 p.2 i.0 c.with_vertex-only.ensures i.4 c.join_one.ensures)
+    let p = c.requires in (i.0, i.1, joining_more p.1 p.2 (omega arith) c.with_vertex-only.ensures i.2 c.join_one.ensures)
 
 pub shape_of-edges : goal.shape_of-edges
-shape_of-edges c = c.loop-q.invariant.4.size ∙ c.lent_join.ensures.size
+shape_of-edges c = c.loop-q.invariant.2.size ∙ c.lent_join.ensures.size
 
 pub returns : goal.returns
 returns c =
     let p = c.requires in
-    joining_all p.0 p.1 p.2 (omega arith) c.lent_join.ensures c.loop-q.invariant.4
+    joining_all p.0 p.1 p.2 (omega arith) c.lent_join.ensures c.loop-q.invariant.2

@@ -1,12 +1,8 @@
--- What the loop of `alike` keeps, and why it ends.
-use Rattle.words.specs.Tests.{◌is◌, count}
-use Rattle.bits.specs.Word.{marked}
+-- What the loop of `alike` keeps.
+use Rattle.words.specs.Tests.{◌is◌}
 use Rattle.live.specs.Inner.Table.{sees_at}
 use Rattle.live.proofs.Comparisons.{Compared}
 use Rattle.live.proofs.comparing.alike.Given as goal
 
 abbrev pub invariant-loop-x : goal.invariant-loop-x
-invariant-loop-x l = Compared l.marks (λ x. sees_at l.rows l.p x is sees_at l.rows l.q x) l.same l.left
-
-abbrev pub decreases-loop-x : goal.decreases-loop-x
-decreases-loop-x l = count 64 (marked l.left)
+invariant-loop-x l = Compared l.marks (λ x. sees_at l.rows l.p x is sees_at l.rows l.q x) l.same l.x-iterator.0

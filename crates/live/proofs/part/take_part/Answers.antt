@@ -52,12 +52,6 @@ offset_bounds-answers-i c = let i = c.loop-i.invariant in omega (arith, i.whole,
 pub bounds-answers-i : goal.bounds-answers-i
 bounds-answers-i c = let i = c.loop-i.invariant in omega (arith, i.whole, i.size, i.far)
 
-pub overflow_add-i : goal.overflow_add-i
-overflow_add-i c = let i = c.loop-i.invariant in omega (arith, i.whole, i.size, i.far)
-
-pub loop-i-smaller : goal.loop-i-smaller
-loop-i-smaller c = let i = c.loop-i.invariant in omega (arith, i.whole, i.size, i.far)
-
 pub loop-i-preserved : goal.loop-i-preserved
 loop-i-preserved c =
     taking_more c.loop-i.invariant (omega (arith, c.loop-i.invariant.size, c.loop-i-test.true)) refl refl refl refl refl c.take-told.ensures c.number_of.ensures
