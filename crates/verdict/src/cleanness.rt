@@ -16,7 +16,7 @@ use crate::leaving::clear;
 use crate::limits::Transaction;
 use crate::refusal::admit;
 use crate::step::{Step, step_at};
-use crate::walk::{index, object_marked};
+use crate::walk::object_marked;
 
 // Whether step i is a judged read from another whose source is not final, by who committed and by what each writes later.
 fn is_faulty(
@@ -62,8 +62,8 @@ fn first_fault(log: &[u16], part: &[u64; graph::WORDS]) -> usize
     for i in (0..n).rev() {
         let step = step_at(log, i);
         if step.kind == Step::WRITE {
-            let t = index(step.tx);
-            later[t] = bits::with_mark(later[t], index(step.obj));
+            let t = usize::from(step.tx);
+            later[t] = bits::with_mark(later[t], usize::from(step.obj));
         } else if is_faulty(log, i, part, &later) {
             fault = i;
         }

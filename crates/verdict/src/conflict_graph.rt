@@ -19,7 +19,6 @@ use crate::leaving::leave;
 use crate::refusal::admit_witness;
 use crate::step::{Step, step_at};
 use crate::touching::touched_row;
-use crate::walk::index;
 
 // Those whose earlier steps meet a step of this kind: the writers of the object, and for a write its readers too.
 fn earlier(touched: &[u64; graph::ROWS], kind: u16, x: u16) -> [u64; graph::WORDS]
@@ -48,8 +47,8 @@ fn touch(
     ensures { Touches matrix.old touched.old kind t x matrix.new touched.new }
 {
     let before = earlier(touched, kind, x);
-    graph::join(matrix, before, index(t));
-    let one = graph::with_vertex([0u64; graph::WORDS], index(t));
+    graph::join(matrix, before, usize::from(t));
+    let one = graph::with_vertex([0u64; graph::WORDS], usize::from(t));
     graph::join(touched, one, touched_row(kind, x));
 }
 

@@ -21,7 +21,6 @@ use crate::limits::Transaction;
 use crate::reasons::{NO_REASON, RW, WR, WW, before_each, number_if, offer};
 use crate::step::{Step, step_at};
 use crate::touching::touched_row;
-use crate::walk::index;
 
 // Whether a is among those that touched the object in this way.
 fn has_touched(touched: &[u64; graph::ROWS], a: u16, kind: u16, x: u16) -> bool
@@ -79,11 +78,11 @@ fn conflict_reasons(
             offer_earlier(
                 &mut best,
                 &touched,
-                before[index(step.tx)],
+                before[usize::from(step.tx)],
                 step.kind,
                 step.obj,
             );
-            let one = graph::with_vertex([0u64; graph::WORDS], index(step.tx));
+            let one = graph::with_vertex([0u64; graph::WORDS], usize::from(step.tx));
             graph::join(&mut touched, one, touched_row(step.kind, step.obj));
         }
     }

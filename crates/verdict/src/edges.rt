@@ -4,14 +4,12 @@ ghost use Rattle.graph.specs.Matrix.{takes_part, row_words};
 ghost use Rattle.verdict.specs.Limits.{transactions};
 ghost use Rattle.verdict.specs.Inner.Edges.{EdgeAdded};
 
-use crate::walk::index;
-
 // Whether t committed, by the marks.
 pub(crate) fn takes_part(part: &[u64; graph::WORDS], t: u16) -> bool
     requires { (1 ≤ t) × (t ≤ transactions) }
     ensures { result ≡ takes_part transactions part.now t }
 {
-    let k = index(t) - 1;
+    let k = usize::from(t) - 1;
     bits::has_mark(part[k / 64], k % 64)
 }
 
@@ -20,6 +18,6 @@ pub(crate) fn join(matrix: &mut [u64; graph::ROWS], a: u16, b: u16)
     requires { length matrix.old ≡ row_words }
     ensures { EdgeAdded matrix.old a b matrix.new }
 {
-    let one = graph::with_vertex([0u64; graph::WORDS], index(a));
-    graph::join(matrix, one, index(b));
+    let one = graph::with_vertex([0u64; graph::WORDS], usize::from(a));
+    graph::join(matrix, one, usize::from(b));
 }

@@ -6,7 +6,6 @@ ghost use Rattle.verdict.specs.Inner.Reasons.{by_value, entry_put, numbered};
 
 use crate::answers::{Answer, Witnessed};
 use crate::limits::Transaction;
-use crate::walk::index;
 
 // Puts the numbers of entry i in.
 fn put_entry(
@@ -48,7 +47,7 @@ pub(crate) fn a_cycle(members: &[u16], reasons: &[u16; Transaction::TABLE]) -> W
     let mut list = [0u16; Transaction::WITNESS];
     for i in 0..members.len() {
         let t = members[i];
-        let reason = reasons[index(t)];
+        let reason = reasons[usize::from(t)];
         put_entry(&mut list, i, t, reason % 4, reason / 4);
     }
     Witnessed {

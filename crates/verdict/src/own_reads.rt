@@ -14,7 +14,7 @@ ghost use Rattle.verdict.specs.Answers.{Passed};
 use crate::edges::takes_part;
 use crate::limits::Transaction;
 use crate::step::{Step, step_at};
-use crate::walk::{EVERY_OBJECT, index, object_marked};
+use crate::walk::{EVERY_OBJECT, object_marked};
 
 // Whether step i is such a read, by the versions that are there before it.
 pub(crate) fn misses(log: &[u16], i: usize, versions: &[u64; Transaction::TABLE]) -> bool
@@ -55,8 +55,8 @@ pub(crate) fn note_version(log: &[u16], i: usize, versions: &mut [u64; Transacti
 {
     let step = step_at(log, i);
     if step.kind == Step::WRITE {
-        let t = index(step.tx);
-        versions[t] = bits::with_mark(versions[t], index(step.obj));
+        let t = usize::from(step.tx);
+        versions[t] = bits::with_mark(versions[t], usize::from(step.obj));
     }
 }
 

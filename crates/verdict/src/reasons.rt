@@ -4,7 +4,6 @@ ghost use Rattle.verdict.specs.Limits.{transactions, objects};
 ghost use Rattle.verdict.specs.Inner.Reasons.{reason_number, number_if, offered, Ring, Before};
 
 use crate::limits::Transaction;
-use crate::walk::index;
 
 // The kinds of a dependency: from a write to a write, from a write to a read, from a read to a write.
 pub const WW: u16 = 1;
@@ -25,7 +24,7 @@ pub(crate) fn before_each(members: &[u16]) -> [u16; Transaction::TABLE]
     let mut last = members[members.len() - 1];
     for i in 0..members.len() {
         let t = members[i];
-        before[index(t)] = last;
+        before[usize::from(t)] = last;
         last = t;
     }
     before
@@ -55,7 +54,7 @@ pub(crate) fn offer(best: &mut [u16; Transaction::TABLE], a: u16, number: u16)
     requires { (length best.old ≡ suc transactions) × (a ≤ transactions) }
     ensures { best.new ≡ offered best.old a number }
 {
-    let at = index(a);
+    let at = usize::from(a);
     if number < best[at] {
         best[at] = number;
     }

@@ -18,7 +18,6 @@ use crate::entries::an_order;
 use crate::leaving::without_members;
 use crate::limits::{Object, Transaction};
 use crate::step::{Step, step_at};
-use crate::walk::index;
 
 // Whether step i is a judged read from another, by who committed.
 fn judged_other(log: &[u16], part: &[u64; graph::WORDS], i: usize) -> bool
@@ -81,8 +80,8 @@ fn need_table(log: &[u16], part: &[u64; graph::WORDS]) -> [u16; Transaction::PAI
     for i in 0..log.len() / 4 {
         if judged_other(log, part, i) {
             let step = step_at(log, i);
-            let row = index(step.tx);
-            let column = index(step.obj);
+            let row = usize::from(step.tx);
+            let column = usize::from(step.obj);
             let k = row * Object::TABLE + column;
             table[k] = with_source(table[k], step.src);
         }
@@ -105,7 +104,7 @@ fn needed_objects(need: &[u16; Transaction::PAIRS], t: u16) -> u64
     requires { t ≤ transactions }
     ensures { NeededOf need.now t result }
 {
-    let row = index(t) * Object::TABLE;
+    let row = usize::from(t) * Object::TABLE;
     let mut marks: u64 = 0;
     for x in 0..Object::TABLE {
         if need[row + x] != 0 {
@@ -136,7 +135,7 @@ fn fits(need: &[u16; Transaction::PAIRS], marks: u64, last: &[u8; Object::TABLE]
     requires { (t ≤ transactions) × NeededOf need.now t marks }
     ensures { result ≡ every objects (λ x. allows (get_or need.now (t * objects + x) 0) (get_or last.now x 0)) }
 {
-    let row = index(t) * Object::TABLE;
+    let row = usize::from(t) * Object::TABLE;
     for x in bits::EachMark(marks) {
         if !allows(need[row + x], last[x]) {
             return false;
@@ -188,7 +187,7 @@ fn note_last(
 {
     let t = ones[i];
     let writer = t as u8;
-    for x in bits::EachMark(writes[index(t)]) {
+    for x in bits::EachMark(writes[usize::from(t)]) {
         last[x] = writer;
     }
 }

@@ -22,7 +22,7 @@ use crate::limits::{Object, Transaction};
 use crate::refusal::{Examined, admit};
 use crate::step::{Step, step_at};
 use crate::tables::{next_of, next_writers};
-use crate::walk::{index, object_marked};
+use crate::walk::object_marked;
 
 // The last transaction to commit, before step b, among the committed writers of x, and the step of its commit; else the store.
 fn last_committed(log: &[u16], writes: &[u64; Transaction::TABLE], b: usize, x: u16) -> Writer
@@ -45,8 +45,8 @@ fn step_of(table: &[u16; Transaction::TABLE], t: u16) -> usize
     requires { t ≤ transactions }
     ensures { result ≡ get_or table.now t 0 }
 {
-    let at = index(t);
-    index(table[at])
+    let at = usize::from(t);
+    usize::from(table[at])
 }
 
 // What read i should have found, by whether it comes after its own write.
@@ -142,7 +142,7 @@ fn clashes(
     if theirs <= step_of(begins, t) {
         return 0;
     }
-    bits::common(writes[index(t)], writes[index(p)])
+    bits::common(writes[usize::from(t)], writes[usize::from(p)])
 }
 
 // Notes step j in the table of the last commits. Answers who commits there, where an object that it writes was written by one who committed
@@ -163,7 +163,7 @@ fn note_commit(
         return None;
     }
     let t = step.tx;
-    let mine = writes[index(t)];
+    let mine = writes[usize::from(t)];
     let since = bits::marked_above(last, mine, step_of(begins, t));
     bits::put_marked(last, mine, j as u16);
     if since {

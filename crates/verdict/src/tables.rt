@@ -9,7 +9,6 @@ ghost use Rattle.verdict.specs.Inner.WriteTable.{WriteTable};
 ghost use Rattle.verdict.specs.Answers.{Passed};
 
 use crate::limits::{Object, Transaction};
-use crate::walk::index;
 
 // Puts t before the writers that are to come, for each object that is marked.
 fn put_before(table: &mut [u8; Transaction::PAIRS], marks: u64, t: usize)
@@ -35,17 +34,10 @@ pub(crate) fn next_writers(
 {
     let mut t = earlier[0];
     while t != 0 {
-        let at = index(t);
+        let at = usize::from(t);
         put_before(table, writes[at], at);
         t = earlier[at];
     }
-}
-
-// An entry of the table as a transaction's number.
-fn number(e: u8) -> u16
-    ensures { result ≡ e }
-{
-    e as u16
 }
 
 // The writer of the next version of x after v's, by the table.
@@ -53,7 +45,7 @@ pub(crate) fn next_of(next: &[u8; Transaction::PAIRS], v: u16, x: u16) -> u16
     requires { (v ≤ transactions) × (x < objects) }
     ensures { result ≡ get_or next.now (v * objects + x) 0 }
 {
-    let row = index(v);
-    let column = index(x);
-    number(next[row * Object::TABLE + column])
+    let row = usize::from(v);
+    let column = usize::from(x);
+    u16::from(next[row * Object::TABLE + column])
 }

@@ -11,7 +11,7 @@ use crate::answers::Refusal;
 use crate::limits::{Object, Transaction};
 use crate::own_reads::{misses, note_version};
 use crate::step::{Step, step_at};
-use crate::walk::{index, object_marked};
+use crate::walk::object_marked;
 
 // What a kind asks of its steps: how many objects there are, from 0 on; the highest source; how far the transaction has come; and the number of a step whose transaction
 // has not.
@@ -56,7 +56,7 @@ fn first_number(
 {
     let step = step_at(log, i);
     in_range(i, step.tx, step.obj, step.src, asked)?;
-    let life = lives[index(step.tx)];
+    let life = lives[usize::from(step.tx)];
     if life == asked.life {
         return Ok(());
     }
@@ -93,7 +93,7 @@ fn take_begin(
     };
     first_number(log, i, lives, asked)?;
     let step = step_at(log, i);
-    let t = index(step.tx);
+    let t = usize::from(step.tx);
     lives[t] = 1;
     begins[t] = i as u16;
     Ok(())
@@ -173,7 +173,7 @@ fn take_end(log: &[u16], i: usize, lives: &mut [u8; Transaction::TABLE]) -> Resu
     };
     first_number(log, i, lives, asked)?;
     let step = step_at(log, i);
-    let t = index(step.tx);
+    let t = usize::from(step.tx);
     lives[t] = 2;
     Ok(())
 }
@@ -192,7 +192,7 @@ fn take_commit(
 {
     take_end(log, i, lives)?;
     let step = step_at(log, i);
-    let t = index(step.tx);
+    let t = usize::from(step.tx);
     commits[t] = i as u16;
     *part = graph::with_vertex(*part, t);
     earlier[t] = earlier[0];

@@ -5,7 +5,6 @@ ghost use Rattle.verdict.specs.Inner.ConflictEdges.{touched_row};
 
 use crate::limits::Object;
 use crate::step::Step;
-use crate::walk::index;
 
 // Which row has those that touch the object in this way: the readers of an object come first, the writers behind them. No row is for other steps.
 pub(crate) fn touched_row(kind: u16, x: u16) -> usize
@@ -13,10 +12,10 @@ pub(crate) fn touched_row(kind: u16, x: u16) -> usize
     ensures { result ≡ touched_row kind x }
 {
     if kind == Step::READ {
-        return index(x) + 1;
+        return usize::from(x) + 1;
     }
     if kind == Step::WRITE {
-        return index(x) + Object::TABLE + 1;
+        return usize::from(x) + Object::TABLE + 1;
     }
     0
 }

@@ -20,7 +20,6 @@ use crate::limits::Transaction;
 use crate::reasons::{NO_REASON, RW, WR, WW, before_each, offer, reason_number};
 use crate::step::{Step, step_at};
 use crate::tables::next_of;
-use crate::walk::index;
 
 // Offers the edge from a to b, where a stands before b on the cycle.
 fn offer_edge(
@@ -35,7 +34,7 @@ fn offer_edge(
     ensures { (length best.new ≡ suc transactions) × ((c : List ℕ) (on : ℕ → ℕ → ℕ → ℕ → Bool) → Before c before.now → Best c on best.old
         → Best c (with_edge on a b x kind) best.new) }
 {
-    if before[index(b)] == a {
+    if before[usize::from(b)] == a {
         offer(best, a, reason_number(x, kind));
     }
 }

@@ -7,13 +7,6 @@ ghost use Rattle.verdict.specs.Log.{committed_count};
 use crate::limits::Transaction;
 use crate::step::{Step, step_at};
 
-// A number of a log as an index.
-pub(crate) fn index(x: u16) -> usize
-    ensures { result ≡ x }
-{
-    x as usize
-}
-
 // How many transactions committed: the commits in the log.
 pub fn committed_count(log: &[u16]) -> usize
     ensures { result ≡ committed_count log.now }
@@ -36,6 +29,6 @@ pub(crate) fn object_marked(writes: &[u64; Transaction::TABLE], t: u16, x: u16) 
     requires { t ≤ transactions }
     ensures { result ≡ marked (get_or writes.now t 0) x }
 {
-    let at = index(t);
-    bits::has_mark(writes[at], index(x))
+    let at = usize::from(t);
+    bits::has_mark(writes[at], usize::from(x))
 }

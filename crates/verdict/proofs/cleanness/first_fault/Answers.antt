@@ -41,12 +41,12 @@ loop-i-init c = (none_later _ 129 _ refl refl, sym (from_end _ _ _ (omega arith)
 
 pub bounds-later-t : goal.bounds-later-t
 unfolding steps
-bounds-later-t c = omega (arith, c.index-t.ensures, c.step_at-step.ensures.tx_is, tx_in _ c.requires.0 (c.loop-i.i - 1) (omega arith))
+bounds-later-t c = omega (arith, c.from-t.ensures, c.step_at-step.ensures.tx_is, tx_in _ c.requires.0 (c.loop-i.i - 1) (omega arith))
 
 pub bounds-later-t-then-step-eq-WRITE : goal.bounds-later-t-then-step-eq-WRITE
 unfolding steps
 bounds-later-t-then-step-eq-WRITE c =
-    omega (arith, c.index-t.ensures, c.step_at-step.ensures.tx_is, tx_in _ c.requires.0 (c.loop-i.i - 1) (omega arith))
+    omega (arith, c.from-t.ensures, c.step_at-step.ensures.tx_is, tx_in _ c.requires.0 (c.loop-i.i - 1) (omega arith))
 
 pub loop-i-preserved-then-step-eq-WRITE : goal.loop-i-preserved-then-step-eq-WRITE
 unfolding steps
@@ -57,7 +57,7 @@ loop-i-preserved-then-step-eq-WRITE c =
     let step = c.step_at-step.ensures in
     let known = c.loop-i.invariant in
     let is_write = sym step.kind_is ∙ c.if-step-eq-WRITE.true in (
-      rw (c.with_mark.ensures, c.index-t.ensures ∙ step.tx_is, c.index.ensures ∙ step.obj_is, provided_true _ _ (→below (object_in log c.requires.0 i inside is_write)))
+      rw (c.with_mark.ensures, c.from-t.ensures ∙ step.tx_is, c.from.ensures ∙ step.obj_is, provided_true _ _ (→below (object_in log c.requires.0 i inside is_write)))
           (later_more _ _ (behind log c.loop-i.i c.loop-i-test.true known.0 known.1) inside is_write (tx_in log c.requires.0 i inside)),
       fault_stays log c.loop-i.i c.loop-i-test.true known.0 known.1 (not_faulty _ _ (other_kind _ _ (λ (e : kind log i ≡ 2). omega (arith, is_write)))),
     )

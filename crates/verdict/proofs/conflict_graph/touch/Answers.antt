@@ -6,8 +6,8 @@ returns c =
     record {
       before = c.earlier-before.result;
       known = c.earlier-before.ensures;
-      joins = rw c.index.ensures at c.join.ensures;
+      joins = rw c.from.ensures at c.join.ensures;
       one = c.with_vertex-one.result;
-      single = rw c.index-2.ensures at c.with_vertex-one.ensures;
+      single = rw c.from-2.ensures at c.with_vertex-one.ensures;
       noted = rw c.touched_row.ensures at c.join-2.ensures;
     }

@@ -22,8 +22,8 @@ use Rattle.verdict.proofs.conflict_reasons.conflict_reasons.Goals as goal
 use Rattle.verdict.proofs.conflict_reasons.conflict_reasons.Goals.{then-takes_part, else-takes_part}
 
 -- places on the way, by the names that the toolchain gives them
-abbrev After-index : Type 0
-After-index = Lts.After-index tie.the-claims Reads.Pre Reads.Post goal.the-invariant-loop-j goal.the-decreases-loop-j
+abbrev After-from : Type 0
+After-from = Lts.After-from tie.the-claims Reads.Pre Reads.Post goal.the-invariant-loop-j goal.the-decreases-loop-j
 
 abbrev After-step_at-step : Type 0
 After-step_at-step = Lts.After-step_at tie.the-claims Reads.Pre Reads.Post goal.the-invariant-loop-j goal.the-decreases-loop-j
@@ -58,8 +58,8 @@ module _ (c : After-step_at-step) where
 told : (c : After-takes_part) → c.takes_part.result ≡ committed (the_log c.before) (tx (the_log c.before) (j c.before))
 told c = told_committed (start c.before).requires.1 c.takes_part.ensures c.step_at-step.ensures.tx_is
 
-placed : (c : After-index) → c.index.result ≡ tx (the_log c.before.before.before.before.before) (j c.before.before.before.before.before)
-placed c = c.index.ensures ∙ c.step_at-step.ensures.tx_is
+placed : (c : After-from) → c.from.result ≡ tx (the_log c.before.before.before.before.before) (j c.before.before.before.before.before)
+placed c = c.from.ensures ∙ c.step_at-step.ensures.tx_is
 
 pub loop-j-init : goal.loop-j-init
 unfolding conflict_until some
@@ -68,11 +68,11 @@ loop-j-init c = (best_none c.requires.2 (λ a b x k. refl), untouched _)
 pub takes_part-requires : goal.takes_part-requires
 takes_part-requires c = rw c.step_at-step.ensures.tx_is (in_range c.before)
 
-pub offset_bounds-before-index : goal.offset_bounds-before-index
-offset_bounds-before-index c = omega (arith, placed c.before, (in_range c.before.before.before.before.before.before).1)
+pub offset_bounds-before-from : goal.offset_bounds-before-from
+offset_bounds-before-from c = omega (arith, placed c.before, (in_range c.before.before.before.before.before.before).1)
 
-pub bounds-before-index : goal.bounds-before-index
-bounds-before-index c = omega (arith, placed c.before, (in_range c.before.before.before.before.before.before).1)
+pub bounds-before-from : goal.bounds-before-from
+bounds-before-from c = omega (arith, placed c.before, (in_range c.before.before.before.before.before.before).1)
 
 pub offer_earlier-requires : goal.offer_earlier-requires
 offer_earlier-requires c =
@@ -90,13 +90,13 @@ loop-j-preserved c =
     let q = (start c.before.before.before).requires in (
       elim c.if-takes_part.branch [
         | then-takes_part w ↦ rw (w.best-is, add-one c.loop-j.j) (ends_offered (the_log c.before.before.before) stands q.3 c.loop-j.j (in_range c.before.before.before).1 known.1 (object c.before.before.before)
-            (w.index.ensures ∙ step.tx_is) step.kind_is step.obj_is (w.offer_earlier.ensures _ _ q.2 known.0))
+            (w.from.ensures ∙ step.tx_is) step.kind_is step.obj_is (w.offer_earlier.ensures _ _ q.2 known.0))
         | else-takes_part w ↦ rw (w.best-is, add-one c.loop-j.j) (ends_nothing (the_log c.before.before.before) stands q.3 c.loop-j.j (in_range c.before.before.before).1 q.2
             (sym (told c.before.before) ∙ w.if-takes_part.false) known.0)
       ],
       elim c.if-takes_part.branch [
         | then-takes_part w ↦ rw (w.touched-is, add-one c.loop-j.j) (touched_more _ _ (sym (told c.before.before) ∙ w.if-takes_part.true) (in_range c.before.before.before) known.1
-            (object c.before.before.before) (w.index-then-takes_part.ensures ∙ step.tx_is) w.with_vertex-one.ensures
+            (object c.before.before.before) (w.from-then-takes_part.ensures ∙ step.tx_is) w.with_vertex-one.ensures
             (w.touched_row.ensures ∙ ap₂ touched_row step.kind_is step.obj_is) w.join.ensures)
         | else-takes_part w ↦ rw (w.touched-is, add-one c.loop-j.j) (touches_none _ (open_step _ _ (sym (told c.before.before) ∙ w.if-takes_part.false)) known.1)
       ],

@@ -4,4 +4,4 @@ use Rattle.verdict.proofs.edges.join.Goals as goal
 
 pub returns : goal.returns
 returns c =
-    edge_added c.requires (rw c.index.ensures at c.with_vertex-one.ensures) (rw c.index-2.ensures at c.join.ensures)
+    edge_added c.requires (rw c.from.ensures at c.with_vertex-one.ensures) (rw c.from-2.ensures at c.join.ensures)

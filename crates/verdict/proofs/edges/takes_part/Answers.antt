@@ -7,4 +7,4 @@ use Rattle.verdict.proofs.edges.takes_part.Goals as goal
 
 pub returns : goal.returns
 unfolding bit
-returns c = rw c.index-k.ensures at c.has_mark.ensures ∙ sym (by_bit _ _ (omega arith) (omega arith))
+returns c = rw c.from-k.ensures at c.has_mark.ensures ∙ sym (by_bit _ _ (omega arith) (omega arith))

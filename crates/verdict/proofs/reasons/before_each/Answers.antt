@@ -10,11 +10,11 @@ use Rattle.verdict.proofs.reasons.before_each.Reads
 use Rattle.verdict.proofs.reasons.before_each.Goals as goal
 
 -- places on the way, by the names that the toolchain gives them
-abbrev After-index : Type 0
-After-index = Lts.After-index tie.the-claims Reads.Pre Reads.Post goal.the-invariant-loop-i goal.the-decreases-loop-i
+abbrev After-from : Type 0
+After-from = Lts.After-from tie.the-claims Reads.Pre Reads.Post goal.the-invariant-loop-i goal.the-decreases-loop-i
 
-known : (c : After-index) → c.index.result ≤ transactions
-known c = rw c.index.ensures (c.requires.high c.loop-i.i (omega arith))
+known : (c : After-from) → c.from.result ≤ transactions
+known c = rw c.from.ensures (c.requires.high c.loop-i.i (omega arith))
 
 pub overflow_sub-last : goal.overflow_sub-last
 overflow_sub-last c = c.requires.any
@@ -28,14 +28,14 @@ bounds-members-members c = omega (arith, c.requires.any)
 pub loop-i-init : goal.loop-i-init
 loop-i-init c = stood_none c.requires refl
 
-pub offset_bounds-before-index : goal.offset_bounds-before-index
-offset_bounds-before-index c = omega (arith, known c.before)
+pub offset_bounds-before-from : goal.offset_bounds-before-from
+offset_bounds-before-from c = omega (arith, known c.before)
 
-pub bounds-before-index : goal.bounds-before-index
-bounds-before-index c = omega (arith, known c.before)
+pub bounds-before-from : goal.bounds-before-from
+bounds-before-from c = omega (arith, known c.before)
 
 pub loop-i-preserved : goal.loop-i-preserved
-loop-i-preserved c = rw c.index.ensures (stood_more c.requires c.loop-i.invariant (omega arith) refl)
+loop-i-preserved c = rw c.from.ensures (stood_more c.requires c.loop-i.invariant (omega arith) refl)
 
 pub returns : goal.returns
 returns c = stood_all c.requires c.loop-i.invariant (omega (arith, c.loop-i.invariant.within))

@@ -6,8 +6,8 @@ use Rattle.verdict.proofs.reasons.offer.Goals as goal
 
 pub returns-then-number-best : goal.returns-then-number-best
 unfolding offered
-returns-then-number-best c = let e = c.index-at.ensures in rw (e) (sym (provided_true _ _ (→below (rw e at c.if-number-best.true))))
+returns-then-number-best c = let e = c.from-at.ensures in rw (e) (sym (provided_true _ _ (→below (rw e at c.if-number-best.true))))
 
 pub returns-else-number-best : goal.returns-else-number-best
 unfolding offered
-returns-else-number-best c = let e = c.index-at.ensures in sym (provided_false _ _ (→not_below (rw e at c.if-number-best.false)))
+returns-else-number-best c = let e = c.from-at.ensures in sym (provided_false _ _ (→not_below (rw e at c.if-number-best.false)))

@@ -4,11 +4,11 @@ use Rattle.verdict.proofs.NeededMarks.{asked_nothing, asked_more, asked_all, one
 use Rattle.verdict.proofs.search.fits.Goals as goal
 
 pub overflow_mul-row : goal.overflow_mul-row
-overflow_mul-row c = omega (arith, c.index-row.ensures, c.requires.0)
+overflow_mul-row c = omega (arith, c.from-row.ensures, c.requires.0)
 
 pub loop-x-init : goal.loop-x-init
 loop-x-init c =
-    (ap (λ (n : ℕ). n * 64) c.index-row.ensures, c.requires.0, c.requires.1, rw c.into_iter-x-iterator.ensures.into_iter_gives (asked_nothing _ _ _ _))
+    (ap (λ (n : ℕ). n * 64) c.from-row.ensures, c.requires.0, c.requires.1, rw c.into_iter-x-iterator.ensures.into_iter_gives (asked_nothing _ _ _ _))
 
 -- x, which is marked, is an object
 pub overflow_add-row : goal.overflow_add-row

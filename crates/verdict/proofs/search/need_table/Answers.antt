@@ -36,7 +36,7 @@ unfolding steps
 bounds-table-k c =
     let h = within _ _ c.loop-i.invariant.0 (omega arith) (sym c.judged_other.ensures ∙ c.if-judged_other.true) in
     let step = c.step_at-step.ensures in
-    omega (arith, c.index-row.ensures, c.index-column.ensures, step.tx_is, step.obj_is, h)
+    omega (arith, c.from-row.ensures, c.from-column.ensures, step.tx_is, step.obj_is, h)
 
 pub with_source-requires : goal.with_source-requires
 unfolding steps
@@ -49,7 +49,7 @@ unfolding steps
 bounds-table-k-then-judged_other c =
     let h = within _ _ c.loop-i.invariant.0 (omega arith) (sym c.judged_other.ensures ∙ c.if-judged_other.true) in
     let step = c.step_at-step.ensures in
-    omega (arith, c.index-row.ensures, c.index-column.ensures, step.tx_is, step.obj_is, h)
+    omega (arith, c.from-row.ensures, c.from-column.ensures, step.tx_is, step.obj_is, h)
 
 pub loop-i-preserved : goal.loop-i-preserved
 unfolding steps
@@ -63,7 +63,7 @@ loop-i-preserved c =
             let judged = says ∙ w.if-judged_other.true in
             let h = within _ loop.i loop.invariant.0 (omega arith) judged in
             let step = w.step_at-step.ensures in
-            rw (w.table-is, w.with_source.ensures, w.index-row.ensures ∙ step.tx_is, w.index-column.ensures ∙ step.obj_is, step.src_is)
+            rw (w.table-is, w.with_source.ensures, w.from-row.ensures ∙ step.tx_is, w.from-column.ensures ∙ step.obj_is, step.src_is)
             (needed_more _ loop.i loop.invariant.2 judged h.0 h.1)
         | else-judged_other w ↦ rw w.table-is (needed_same _ loop.i loop.invariant.2 (says ∙ w.if-judged_other.false))
       ],

@@ -7,10 +7,10 @@ use Rattle.verdict.proofs.search.needed_objects.Goals as goal
 use Rattle.verdict.proofs.search.needed_objects.Goals.{then-need-row-ne0, else-need-row-ne0}
 
 pub overflow_mul-row : goal.overflow_mul-row
-overflow_mul-row c = omega (arith, c.index-row.ensures, c.requires)
+overflow_mul-row c = omega (arith, c.from-row.ensures, c.requires)
 
 pub loop-x-init : goal.loop-x-init
-loop-x-init c = (ap (λ (n : ℕ). n * 64) c.index-row.ensures, c.requires, needed_nothing _ _)
+loop-x-init c = (ap (λ (n : ℕ). n * 64) c.from-row.ensures, c.requires, needed_nothing _ _)
 
 pub loop-x-preserved : goal.loop-x-preserved
 loop-x-preserved c =

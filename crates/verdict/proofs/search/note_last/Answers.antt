@@ -14,4 +14,4 @@ loop-x-preserved c = put_turn c.loop-x.invariant c.in-Some.ensures.steps
 pub returns : goal.returns
 returns c =
     let put = put_last c.loop-x.invariant c.in-None.ensures.steps in
-    record { size = put.size; each = rw (c.into_iter-x-iterator.ensures.into_iter_gives, c.index.ensures) at (put.each c.requires.0) }
+    record { size = put.size; each = rw (c.into_iter-x-iterator.ensures.into_iter_gives, c.from.ensures) at (put.each c.requires.0) }

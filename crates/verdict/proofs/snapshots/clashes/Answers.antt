@@ -24,4 +24,4 @@ returns c =
     let a = c.args in
     let j : get_or a.commits.now a.p 0 < a.j = omega (arith, c.if-j-theirs.false, c.step_of-theirs.ensures) in
     let k : get_or a.begins.now a.t 0 < get_or a.commits.now a.p 0 = omega (arith, c.if-theirs-step_of.false, c.step_of-theirs.ensures, c.step_of.ensures) in
-    over _ _ _ q.0 q.4 q.5 (sym q.6) q.7 q.8 c.common.result q.1 q.2 q.3 j k (rw (c.index.ensures, c.index-2.ensures) at c.common.ensures)
+    over _ _ _ q.0 q.4 q.5 (sym q.6) q.7 q.8 c.common.result q.1 q.2 q.3 j k (rw (c.from.ensures, c.from-2.ensures) at c.common.ensures)

@@ -36,11 +36,11 @@ module _ (c : After-put_marked) where
   is_commit : kind here.args.log.now here.args.j ≡ 4
   is_commit = omega (arith, here.step_at-step.ensures.kind_is, c.if-step-ne-COMMIT.false)
 
-  committing : c.index.result ≡ tx here.args.log.now here.args.j
-  committing = c.index.ensures ∙ here.step_at-step.ensures.tx_is
+  committing : c.from.result ≡ tx here.args.log.now here.args.j
+  committing = c.from.ensures ∙ here.step_at-step.ensures.tx_is
 
-  last_then : {next : List ℕ} → Puts here.args.last.now (get_or here.args.writes.now c.index.result 0) here.args.j next → LastCommits here.args.log.now (here.args.j + 1) next
-  last_then put = commit_more _ _ here.requires.3 here.requires.1 committing (omega (arith, c.index.ensures, (in_range here).1)) is_commit refl put
+  last_then : {next : List ℕ} → Puts here.args.last.now (get_or here.args.writes.now c.from.result 0) here.args.j next → LastCommits here.args.log.now (here.args.j + 1) next
+  last_then put = commit_more _ _ here.requires.3 here.requires.1 committing (omega (arith, c.from.ensures, (in_range here).1)) is_commit refl put
 
 pub step_at-step-requires : goal.step_at-step-requires
 unfolding steps
@@ -51,8 +51,8 @@ returns-then-step-ne-COMMIT c =
     let n : kind c.args.log.now c.args.j ≡ 4 → ⊥ = λ e. c.if-step-ne-COMMIT.true (c.step_at-step.ensures.kind_is ∙ e) in
     record { last = other_step _ _ c.requires.3 n; told = λ p. no_commit _ _ p n }
 
-pub bounds-writes-index : goal.bounds-writes-index
-bounds-writes-index c = omega (arith, c.index.ensures, (in_range c.before.before.before.before).1)
+pub bounds-writes-from : goal.bounds-writes-from
+bounds-writes-from c = omega (arith, c.from.ensures, (in_range c.before.before.before.before).1)
 
 pub step_of-requires : goal.step_of-requires
 step_of-requires c = (in_range c.before.before.before.before.before).1
@@ -68,7 +68,7 @@ returns-then-since c =
 
 pub returns : goal.returns
 returns c =
-    let index_is = c.index.ensures in
+    let index_is = c.from.ensures in
     let begin = c.step_of.ensures ∙ begin_at _ _ (in_range (here c.before.before)).1 c.requires.2 ∙ ap (snapshot_step c.args.log.now) (sym index_is) in
     record {
       last = last_then c.before.before c.put_marked.ensures;

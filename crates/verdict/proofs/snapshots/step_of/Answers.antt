@@ -2,4 +2,4 @@
 use Rattle.verdict.proofs.snapshots.step_of.Goals as goal
 
 pub returns : goal.returns
-returns c = rw c.index-at.ensures at c.index.ensures
+returns c = rw c.from-at.ensures at c.from.ensures

@@ -2,4 +2,4 @@
 use Rattle.verdict.proofs.tables.next_of.Goals as goal
 
 pub returns : goal.returns
-returns c = rw (← c.index-row.ensures, ← c.index-column.ensures) c.number.ensures
+returns c = rw (← c.from-row.ensures, ← c.from-column.ensures) c.from.ensures

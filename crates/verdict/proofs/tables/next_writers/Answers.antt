@@ -16,30 +16,30 @@ use Rattle.verdict.proofs.tables.next_writers.Reads
 use Rattle.verdict.proofs.tables.next_writers.Goals as goal
 
 -- places on the way, by the names that the toolchain gives them
-abbrev After-index-at : Type 0
-After-index-at = Lts.After-index tie.the-claims Reads.Pre Reads.Post goal.the-invariant-loop-t goal.the-decreases-loop-t
+abbrev After-from-at : Type 0
+After-from-at = Lts.After-from tie.the-claims Reads.Pre Reads.Post goal.the-invariant-loop-t goal.the-decreases-loop-t
 
-abbrev the_log : After-index-at → List ℕ
+abbrev the_log : After-from-at → List ℕ
 the_log c = c.args.log.now
 
-well : (c : After-index-at) → Well transactions (the_log c)
+well : (c : After-from-at) → Well transactions (the_log c)
 well c = well_formed _ c.loop-t.invariant.0
 
 -- the last commit before the steps that are done
-commit : (c : After-index-at) → LastCommit (the_log c) c.loop-t.invariant.3
+commit : (c : After-from-at) → LastCommit (the_log c) c.loop-t.invariant.3
 commit c = last_commit _ _ (λ z. c.loop-t-test.true (c.loop-t.invariant.5 ∙ z))
 
-is_tx : (c : After-index-at) → c.index-at.result ≡ tx (the_log c) (commit c).step
-is_tx c = c.index-at.ensures ∙ c.loop-t.invariant.5 ∙ sym (commit c).by
+is_tx : (c : After-from-at) → c.from-at.result ≡ tx (the_log c) (commit c).step
+is_tx c = c.from-at.ensures ∙ c.loop-t.invariant.5 ∙ sym (commit c).by
 
-step_in : (c : After-index-at) → (commit c).step < steps (the_log c)
+step_in : (c : After-from-at) → (commit c).step < steps (the_log c)
 step_in c = omega (arith, (commit c).below, c.loop-t.invariant.4)
 
-tx_in : (c : After-index-at) → (1 ≤ c.index-at.result) × (c.index-at.result ≤ transactions)
+tx_in : (c : After-from-at) → (1 ≤ c.from-at.result) × (c.from-at.result ≤ transactions)
 tx_in c = let r = (well c).range (commit c).step (step_in c) in (omega (arith, is_tx c, r.0), omega (arith, is_tx c, r.1))
 
 -- who committed before it
-onward : (c : After-index-at) → get_or c.args.earlier.now c.index-at.result 0 ≡ committer (the_log c) (commit c).step
+onward : (c : After-from-at) → get_or c.args.earlier.now c.from-at.result 0 ≡ committer (the_log c) (commit c).step
 onward c = ap (λ (t : ℕ). get_or c.args.earlier.now t 0) (is_tx c) ∙ c.loop-t.invariant.2.before (commit c).step (step_in c) (commit c).commits
 
 pub loop-t-init : goal.loop-t-init

@@ -13,10 +13,10 @@ use Rattle.verdict.proofs.taking.first_number.Goals as goal
 far : {log lives : List ℕ} {i : ℕ} → Lived log i lives → InRange log i → {t : ℕ} → t ≡ tx log i → get_or lives t 0 ≡ life log i (tx log i)
 far {lives} lived within e = ap (λ (t : ℕ). get_or lives t 0) e ∙ lived.far _ (tx_within _ _ within).1
 
-pub bounds-lives-index : goal.bounds-lives-index
-bounds-lives-index c =
+pub bounds-lives-from : goal.bounds-lives-from
+bounds-lives-from c =
     let step = c.step_at-step.ensures in
-    omega (arith, c.index.ensures, step.tx_is, (tx_within _ _ (passes_asked step c.requires.2 c.in_ok-in_range.ensures)).1)
+    omega (arith, c.from.ensures, step.tx_is, (tx_within _ _ (passes_asked step c.requires.2 c.in_ok-in_range.ensures)).1)
 
 pub returns-in_err-in_range : goal.returns-in_err-in_range
 returns-in_err-in_range c =
@@ -29,7 +29,7 @@ returns-then-life-asked c =
     let step = c.step_at-step.ensures in
     let asks = c.requires.2 in
     let within = passes_asked step asks c.in_ok-in_range.ensures in
-    sym (tried_passed _ within ∙ life_passes _ _ (sym (far c.requires.1 within (c.index.ensures ∙ step.tx_is)) ∙ c.if-life-asked.true ∙ asks.far))
+    sym (tried_passed _ within ∙ life_passes _ _ (sym (far c.requires.1 within (c.from.ensures ∙ step.tx_is)) ∙ c.if-life-asked.true ∙ asks.far))
 
 pub returns : goal.returns
 unfolding InRange
@@ -37,4 +37,4 @@ returns c =
     let step = c.step_at-step.ensures in
     let asks = c.requires.2 in
     let within = passes_asked step asks c.in_ok-in_range.ensures in
-    sym (tried_passed _ within ∙ life_late _ _ (λ e. c.if-life-asked.false (far c.requires.1 within (c.index.ensures ∙ step.tx_is) ∙ e ∙ sym asks.far)) asks.number)
+    sym (tried_passed _ within ∙ life_late _ _ (λ e. c.if-life-asked.false (far c.requires.1 within (c.from.ensures ∙ step.tx_is) ∙ e ∙ sym asks.far)) asks.number)

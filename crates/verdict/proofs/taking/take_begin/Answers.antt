@@ -26,16 +26,16 @@ step_at-step-requires c = omega (arith, c.requires.0)
 pub bounds-lives-t : goal.bounds-lives-t
 bounds-lives-t c =
     let passed = sym (c.in_ok-first_number.ensures ∙ no_source _ _ (λ e. omega (arith, e, c.requires.2))) in
-    omega (arith, c.index-t.ensures, c.step_at-step.ensures.tx_is, (tx_within _ _ (step_within _ _ passed)).1)
+    omega (arith, c.from-t.ensures, c.step_at-step.ensures.tx_is, (tx_within _ _ (step_within _ _ passed)).1)
 
 pub bounds-begins-t : goal.bounds-begins-t
 bounds-begins-t c =
     let passed = sym (c.in_ok-first_number.ensures ∙ no_source _ _ (λ e. omega (arith, e, c.requires.2))) in
-    omega (arith, c.index-t.ensures, c.step_at-step.ensures.tx_is, (tx_within _ _ (step_within _ _ passed)).1)
+    omega (arith, c.from-t.ensures, c.step_at-step.ensures.tx_is, (tx_within _ _ (step_within _ _ passed)).1)
 
 pub returns : goal.returns
 returns c =
     let known = c.requires in
     let passed = sym (c.in_ok-first_number.ensures ∙ no_source _ _ (λ e. omega (arith, e, c.requires.2))) in
-    let tx_is = c.index-t.ensures ∙ c.step_at-step.ensures.tx_is in
+    let tx_is = c.from-t.ensures ∙ c.step_at-step.ensures.tx_is in
     (passed, (rw tx_is (begin_lives _ _ passed known.2 known.3), rw tx_is (begin_noted _ _ passed known.2 known.4)))

@@ -14,19 +14,19 @@ step_at-step-requires c = omega (arith, c.requires.0)
 
 pub bounds-commits-t : goal.bounds-commits-t
 bounds-commits-t c =
-    omega (arith, c.index-t.ensures, c.step_at-step.ensures.tx_is, (tx_within _ _ (step_within _ _ c.in_ok-take_end.ensures.0)).1)
+    omega (arith, c.from-t.ensures, c.step_at-step.ensures.tx_is, (tx_within _ _ (step_within _ _ c.in_ok-take_end.ensures.0)).1)
 
 pub bounds-earlier-t : goal.bounds-earlier-t
 bounds-earlier-t c =
-    omega (arith, c.index-t.ensures, c.step_at-step.ensures.tx_is, (tx_within _ _ (step_within _ _ c.in_ok-take_end.ensures.0)).1)
+    omega (arith, c.from-t.ensures, c.step_at-step.ensures.tx_is, (tx_within _ _ (step_within _ _ c.in_ok-take_end.ensures.0)).1)
 
 pub overflow_cast-earlier : goal.overflow_cast-earlier
 overflow_cast-earlier c =
-    omega (arith, c.index-t.ensures, c.step_at-step.ensures.tx_is, (tx_within _ _ (step_within _ _ c.in_ok-take_end.ensures.0)).1)
+    omega (arith, c.from-t.ensures, c.step_at-step.ensures.tx_is, (tx_within _ _ (step_within _ _ c.in_ok-take_end.ensures.0)).1)
 
 pub returns : goal.returns
 returns c =
     let known = c.requires in
     let ended = c.in_ok-take_end.ensures in
-    let tx_is = c.index-t.ensures ∙ c.step_at-step.ensures.tx_is in
+    let tx_is = c.from-t.ensures ∙ c.step_at-step.ensures.tx_is in
     (ended.0, (ended.1, rw tx_is (commit_noted _ _ ended.0 known.2 known.4 (rw tx_is at c.with_vertex.ensures))))

@@ -26,10 +26,10 @@ step_at-step-requires c = omega (arith, c.requires.0)
 pub bounds-lives-t : goal.bounds-lives-t
 bounds-lives-t c =
     let passed = sym (c.in_ok-first_number.ensures ∙ no_source _ _ (λ e. ⊎_elim (λ k. omega (arith, e, k)) (λ k. omega (arith, e, k)) c.requires.1)) in
-    omega (arith, c.index-t.ensures, c.step_at-step.ensures.tx_is, (tx_within _ _ (step_within _ _ passed)).1)
+    omega (arith, c.from-t.ensures, c.step_at-step.ensures.tx_is, (tx_within _ _ (step_within _ _ passed)).1)
 
 pub returns : goal.returns
 returns c =
     let known = c.requires in
     let passed = sym (c.in_ok-first_number.ensures ∙ no_source _ _ (λ e. ⊎_elim (λ k. omega (arith, e, k)) (λ k. omega (arith, e, k)) known.1)) in
-    (passed, rw (c.index-t.ensures ∙ c.step_at-step.ensures.tx_is) (end_lives _ _ passed known.1 known.2))
+    (passed, rw (c.from-t.ensures ∙ c.step_at-step.ensures.tx_is) (end_lives _ _ passed known.1 known.2))

@@ -7,11 +7,11 @@ use Rattle.verdict.proofs.touching.touched_row.Goals as goal
 
 pub returns-then-kind-eq-READ : goal.returns-then-kind-eq-READ
 unfolding touched_row
-returns-then-kind-eq-READ c = rw c.index.ensures (add-one _ ∙ sym (provided_true _ _ (→is c.if-kind-eq-READ.true)))
+returns-then-kind-eq-READ c = rw c.from.ensures (add-one _ ∙ sym (provided_true _ _ (→is c.if-kind-eq-READ.true)))
 
 pub returns-then-kind-eq-WRITE : goal.returns-then-kind-eq-WRITE
 unfolding touched_row
-returns-then-kind-eq-WRITE c = rw c.index-then-kind-eq-WRITE.ensures (add-one _ ∙ sym (provided_false _ _ (→isnt c.if-kind-eq-READ.false) ∙ provided_true _ _ (→is c.if-kind-eq-WRITE.true)))
+returns-then-kind-eq-WRITE c = rw c.from-then-kind-eq-WRITE.ensures (add-one _ ∙ sym (provided_false _ _ (→isnt c.if-kind-eq-READ.false) ∙ provided_true _ _ (→is c.if-kind-eq-WRITE.true)))
 
 pub returns : goal.returns
 unfolding touched_row

@@ -2,4 +2,4 @@
 use Rattle.verdict.proofs.walk.object_marked.Goals as goal
 
 pub returns : goal.returns
-returns c = rw (c.index-at.ensures, c.index.ensures) at c.has_mark.ensures
+returns c = rw (c.from-at.ensures, c.from.ensures) at c.has_mark.ensures
