@@ -1,6 +1,6 @@
 // The one number in which a C call answers.
 ghost use Rattle.std.specs.Prelude.{◌≡◌};
-ghost use Rattle.exports.specs.Packed.{◌with◌and◌then◌, fault_numbers, clean_numbers, read_numbers, snapshot_numbers, witness_numbers, count_numbers, live_numbers, accepts_numbers, packed};
+ghost use Rattle.exports.specs.Packed.{refused_numbers, ◌with◌and◌then◌, fault_numbers, clean_numbers, read_numbers, snapshot_numbers, witness_numbers, count_numbers, live_numbers, accepts_numbers, packed};
 ghost use Rattle.exports.specs.Inner.Small.{Small};
 
 use plan::Acceptance;
@@ -39,6 +39,15 @@ fn pack(kind: u64, first: u64, second: u64, third: u64) -> u64
     kind + 65536 * (first + 65536 * (second + 65536 * third))
 }
 
+// The number of a refusal.
+fn pack_refused(refusal: Refusal) -> u64
+    requires { Small (packed (refused_numbers refusal)) }
+    ensures { result ≡ packed (refused_numbers refusal) }
+{
+    let Refusal(number, place) = refusal;
+    pack(REFUSED, u64::from(number), place as u64, 0)
+}
+
 // The number of a fault.
 fn pack_fault(fault: Fault) -> u64
     requires { Small (packed (fault_numbers fault)) }
@@ -57,7 +66,7 @@ pub(crate) fn pack_clean(answer: Result<Cleanness, Refusal>) -> u64
     ensures { result ≡ packed (clean_numbers answer) }
 {
     match answer {
-        Err(Refusal(number, place)) => pack(REFUSED, u64::from(number), place as u64, 0),
+        Err(refusal) => pack_refused(refusal),
         Ok(clean) => match clean {
             Cleanness::Yes => pack(YES, 0, 0, 0),
             Cleanness::Unclean(fault) => pack_fault(fault),
@@ -83,7 +92,7 @@ pub(crate) fn pack_snapshot(answer: Result<Snapshot, Refusal>) -> u64
     ensures { result ≡ packed (snapshot_numbers answer) }
 {
     match answer {
-        Err(Refusal(number, place)) => pack(REFUSED, u64::from(number), place as u64, 0),
+        Err(refusal) => pack_refused(refusal),
         Ok(snapshot) => match snapshot {
             Snapshot::Yes => pack(YES, 0, 0, 0),
             Snapshot::Read(k, writer) => pack_read(k, writer),
@@ -98,7 +107,7 @@ pub(crate) fn pack_witness(answer: Result<Answer, Refusal>) -> u64
     ensures { result ≡ packed (witness_numbers answer) }
 {
     match answer {
-        Err(Refusal(number, place)) => pack(REFUSED, u64::from(number), place as u64, 0),
+        Err(refusal) => pack_refused(refusal),
         Ok(judged) => match judged {
             Answer::Order(n) => pack(ORDER, n as u64, 0, 0),
             Answer::Cycle(n) => pack(CYCLE, n as u64, 0, 0),
@@ -114,7 +123,7 @@ pub(crate) fn pack_count(answer: Result<usize, Refusal>) -> u64
     ensures { result ≡ packed (count_numbers answer) }
 {
     match answer {
-        Err(Refusal(number, place)) => pack(REFUSED, u64::from(number), place as u64, 0),
+        Err(refusal) => pack_refused(refusal),
         Ok(n) => pack(ACCEPTED, n as u64, 0, 0),
     }
 }
@@ -125,7 +134,7 @@ pub(crate) fn pack_live(answer: Result<(), Refusal>) -> u64
     ensures { result ≡ packed (live_numbers answer) }
 {
     match answer {
-        Err(Refusal(number, place)) => pack(REFUSED, u64::from(number), place as u64, 0),
+        Err(refusal) => pack_refused(refusal),
         Ok(()) => pack(ACCEPTED, 0, 0, 0),
     }
 }
@@ -136,7 +145,7 @@ pub(crate) fn pack_accepts(answer: Result<Acceptance, Refusal>) -> u64
     ensures { result ≡ packed (accepts_numbers answer) }
 {
     match answer {
-        Err(Refusal(number, place)) => pack(REFUSED, u64::from(number), place as u64, 0),
+        Err(refusal) => pack_refused(refusal),
         Ok(judged) => match judged {
             Acceptance::Yes => pack(YES, 0, 0, 0),
             Acceptance::No => pack(NO, 0, 0, 0),

@@ -5,13 +5,13 @@ use Rattle.exports.specs.Packed.{clean_numbers}
 use Rattle.exports.proofs.Values.{known_small, known_packed}
 use Rattle.exports.proofs.pack.pack_clean.Goals as goal
 
+pub pack_refused-requires : goal.pack_refused-requires
+unfolding clean_numbers
+pack_refused-requires c = known_small clean_numbers c.in-Err.is c.requires
+
 pub pack-requires : goal.pack-requires
 unfolding clean_numbers
-pack-requires c = rw c.from.ensures (known_small clean_numbers c.in-Err.is c.requires)
-
-pub pack-requires-in-Yes : goal.pack-requires-in-Yes
-unfolding clean_numbers
-pack-requires-in-Yes c = known_small clean_numbers (c.in-Ok.is ∙ ap Ok c.in-Yes.is) c.requires
+pack-requires c = known_small clean_numbers (c.in-Ok.is ∙ ap Ok c.in-Yes.is) c.requires
 
 pub pack_fault-requires : goal.pack_fault-requires
 unfolding clean_numbers
@@ -19,11 +19,11 @@ pack_fault-requires c = known_small clean_numbers (c.in-Ok.is ∙ ap Ok c.in-Unc
 
 pub returns-in-Err : goal.returns-in-Err
 unfolding clean_numbers
-returns-in-Err c = known_packed clean_numbers c.in-Err.is (rw c.from.ensures at c.pack.ensures)
+returns-in-Err c = known_packed clean_numbers c.in-Err.is c.pack_refused.ensures
 
 pub returns-in-Yes : goal.returns-in-Yes
 unfolding clean_numbers
-returns-in-Yes c = known_packed clean_numbers (c.in-Ok.is ∙ ap Ok c.in-Yes.is) c.pack-in-Yes.ensures
+returns-in-Yes c = known_packed clean_numbers (c.in-Ok.is ∙ ap Ok c.in-Yes.is) c.pack.ensures
 
 pub returns-in-Unclean : goal.returns-in-Unclean
 unfolding clean_numbers

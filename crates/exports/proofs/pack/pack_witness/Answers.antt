@@ -5,13 +5,13 @@ use Rattle.exports.specs.Packed.{witness_numbers}
 use Rattle.exports.proofs.Values.{known_small, known_packed}
 use Rattle.exports.proofs.pack.pack_witness.Goals as goal
 
+pub pack_refused-requires : goal.pack_refused-requires
+unfolding witness_numbers
+pack_refused-requires c = known_small witness_numbers c.in-Err.is c.requires
+
 pub pack-requires : goal.pack-requires
 unfolding witness_numbers
-pack-requires c = rw c.from.ensures (known_small witness_numbers c.in-Err.is c.requires)
-
-pub pack-requires-in-Order : goal.pack-requires-in-Order
-unfolding witness_numbers
-pack-requires-in-Order c = known_small witness_numbers (c.in-Ok.is ∙ ap Ok c.in-Order.is) c.requires
+pack-requires c = known_small witness_numbers (c.in-Ok.is ∙ ap Ok c.in-Order.is) c.requires
 
 pub pack-requires-in-Cycle : goal.pack-requires-in-Cycle
 unfolding witness_numbers
@@ -27,11 +27,11 @@ pack_fault-requires c = known_small witness_numbers (c.in-Ok.is ∙ ap Ok c.in-U
 
 pub returns-in-Err : goal.returns-in-Err
 unfolding witness_numbers
-returns-in-Err c = known_packed witness_numbers c.in-Err.is (rw c.from.ensures at c.pack.ensures)
+returns-in-Err c = known_packed witness_numbers c.in-Err.is c.pack_refused.ensures
 
 pub returns-in-Order : goal.returns-in-Order
 unfolding witness_numbers
-returns-in-Order c = known_packed witness_numbers (c.in-Ok.is ∙ ap Ok c.in-Order.is) c.pack-in-Order.ensures
+returns-in-Order c = known_packed witness_numbers (c.in-Ok.is ∙ ap Ok c.in-Order.is) c.pack.ensures
 
 pub returns-in-Cycle : goal.returns-in-Cycle
 unfolding witness_numbers
