@@ -122,12 +122,7 @@ fn best(layers: &mut [u64; ROWS], m: &[u64; ROWS], part: [u64; WORDS]) -> Option
 fn nearer(m: &[u64; ROWS], part: [u64; WORDS], layer: [u64; WORDS], a: usize) -> Option<usize>
     ensures { LowestOf (λ u. takes_part vertices layer u and joined vertices m.now part a u) result }
 {
-    for u in EachVertex(layer) {
-        if takes_part(before(m, part, u), a) {
-            return Some(u);
-        }
-    }
-    None
+    EachVertex(layer).find(|u| takes_part(before(m, part, *u), a))
 }
 
 // Lays down, from place 1 on, the lowest closed walk from s with len vertices besides s, by its layers.
