@@ -1,6 +1,6 @@
 -- "Next": the explaining orders of a clean log are the orders of its version graph, so the first later one of the graph is the answer.
 use mathlib.Core.Path.{◌≡◌, sym, ap, subst, fun_ext, ◌∙◌}
-use mathlib.Core.Bool.{Bool, true, false}
+use mathlib.Core.Bool.{Bool, true}
 use mathlib.Core.List.{List}
 use Prim.Native.Nat.{ℕ, suc}
 use native.Mathlib.Omega.{arith}
@@ -8,7 +8,7 @@ use Rattle.words.specs.Lists.{zeros}
 use Rattle.words.specs.First.{dictionary, First, Never, later}
 use Rattle.graph.specs.Matrix.{matrix_order}
 use Rattle.graph.specs.Order.{is_order}
-use Rattle.words.proofs.Truth.{same_test, not_both, and→, →and}
+use Rattle.words.proofs.Truth.{same_test, and→, →and}
 use Rattle.verdict.specs.Limits.{transactions, witness_buffer}
 use Rattle.verdict.specs.Log.{committed}
 use Rattle.verdict.specs.Refusal.{log_refusal}
