@@ -1,18 +1,21 @@
 -- Walks over a set of vertices, the lowest first: what is gathered of their edges, and which of them has one.
-use mathlib.Core.Path.{◌≡◌, refl, sym, ap, ◌∙◌}
+use mathlib.Core.Path.{◌≡◌, refl, sym, ap, subst, ◌∙◌}
 use mathlib.Core.Bool.{Bool, true, false}
 use mathlib.Core.Logic.{⊎_elim}
-use mathlib.Core.List.{List}
+use mathlib.Core.List.{List, [], ◌∷◌}
 use Prim.Native.Nat.{ℕ, ◌+◌, ◌≤◌, ◌<◌}
 use native.Mathlib.Omega.{arith}
-use Rattle.std.specs.Prelude.{Option, Some, None, IsSome}
+use Rattle.std.specs.Prelude.{⊤, Option, Some, None, IsSome, MatchOption}
+use Rattle.std.specs.Iterator.{Yields, YieldsThen}
+use Rattle.std.specs.List.{FoldsTo}
 use lib.ListN.{length, replicate}
 use Rattle.words.specs.Tests.{◌is◌, ◌below◌, ◌upto◌, ◌and◌, ◌or◌, some, count, lowest}
 use Rattle.words.proofs.Truth.{decide, not_both, to_false, same_test, and→, →and, and_no_left, or→, →or_left, →or_right, or_false, or_no, is→, isnt→, below→, →below, upto→, →upto, some→, →some, none→, →none, some_next, lowest_is, lowest_at, lowest_none, lowest_some, lowest_passes, below_lowest}
 use Rattle.words.proofs.From.{lowest_same}
 use Rattle.graph.specs.Matrix.{takes_part}
 use Rattle.graph.specs.Inner.Peel.{without, unmarked}
-use Rattle.graph.specs.Inner.Finding.{IsLowest, LowestOf, Turn}
+use Rattle.graph.specs.Inner.Finding.{IsLowest, LowestOf, Turn, GivesLowest}
+use Rattle.graph.specs.declared.sets.EachVertex.{EachVertex}
 use Rattle.graph.proofs.Peel.{without→, →without}
 use Rattle.graph.proofs.Marks.{part→, size_unmarked, parts_without}
 use Rattle.graph.proofs.Sized.{part_less}
@@ -107,6 +110,23 @@ module _ {passes : ℕ → Bool} {layer rest : List ℕ} (s : Sought passes laye
 
   pub sought_all : some 129 (takes_part 128 rest) ≡ false → some 129 (λ u. takes_part 128 layer u and passes u) ≡ false
   sought_all none = lowest_some _ (omega (arith, lowest_none (λ u. takes_part 128 rest u and passes u) (→none _ (λ u h. and_no_left _ (none→ _ none u h))), s.same))
+
+-- `find` over the vertices of a set, by what the calls with false and with true tell of a vertex
+module _ {F : Type 0} (passes : ℕ → Bool) (No Yes : F → ℕ → F → Type 0) (f : F) (no : (x : ℕ) (q : F) → No f x q → (q ≡ f) × (passes x ≡ false)) (yes : (x : ℕ) (q : F) → Yes f x q → passes x ≡ true) where
+  abbrev pub steps : EachVertex → Option ℕ → EachVertex → Type 0
+  steps s r t = GivesLowest s.0 r t.0
+
+  finish : (layer : List ℕ) (t u : EachVertex) (r : Option ℕ) → Sought passes layer t.0 → steps t r u → MatchOption r ⊤ (λ x. (h : F) × Yes f x h) → LowestOf (λ v. takes_part 128 layer v and passes v) r
+  finish layer t u None so s m = sought_all so s
+  finish layer t u (Some x) so s m = sought_here so s (yes x m.0 m.1)
+
+  passed : (layer : List ℕ) (u t : EachVertex) (r : Option ℕ) (xs : List ℕ) (s : EachVertex) (j : F) → Sought passes layer s.0 → Yields steps s xs t → FoldsTo No f xs j → steps t r u → MatchOption r ⊤ (λ x. (h : F) × Yes j x h)
+      → LowestOf (λ v. takes_part 128 layer v and passes v) r
+  passed layer u t r [] s j so y g e m = finish layer t u r (subst (λ (z : EachVertex). Sought passes layer z.0) y so) e (subst (λ (k : F). MatchOption r ⊤ (λ x. (h : F) × Yes k x h)) (sym g) m)
+  passed layer u t r (x ∷ xs) s j so y g e m = let n = no x g.0 g.1 in passed layer u t r xs y.0 j (sought_on so y.1 n.1) y.2 (subst (λ (k : F). FoldsTo No k xs j) n.0 g.2) e m
+
+  pub lowest_found : (s u : EachVertex) (r : Option ℕ) → length s.0 ≡ 2 → (xs : List ℕ) × (j : F) × YieldsThen steps s xs r u × FoldsTo No f xs j × MatchOption r ⊤ (λ x. (h : F) × Yes j x h) → LowestOf (λ v. takes_part 128 s.0 v and passes v) r
+  lowest_found s u r two d = passed s.0 u d.2.0 r d.0 s d.1 (record { two = two; same = refl }) d.2.1 d.3 d.2.2 d.4
 
 -- of the vertices below u, those from which an edge leads to a higher one that is also below u
 pub record Rises (edge : ℕ → ℕ → Bool) (u : ℕ) (lower all : List ℕ) : Type 0 where

@@ -1,5 +1,5 @@
-// The first shortest cycle. For each vertex s those above s are found layer by layer, by how far they are from s on a walk through vertices above s. The
-// shortest closed walk is a cycle, and the lowest one is traced through its layers.
+// The first shortest cycle. For each vertex s those above s are found layer by layer, by how far they are from s on a walk through
+// vertices above s. The shortest closed walk is a cycle, and the lowest one is traced through its layers.
 ghost use Rattle.std.specs.Prelude.{◌≡◌, true, List, ℕ, suc, ◌+◌, ◌≤◌, ◌<◌, length};
 ghost use Rattle.words.specs.Tests.{◌below◌, ◌and◌, some, lowest};
 ghost use Rattle.graph.specs.Cycle.{is_cycle};
@@ -47,8 +47,8 @@ fn rising(m: &[u64; ROWS], part: [u64; WORDS]) -> [u64; WORDS]
     all
 }
 
-// How many vertices the shortest closed walk from s has besides s, of those with fewer than limit. The layers on the way go into the rows, the
-// first one into the row of 1.
+// How many vertices the shortest closed walk from s has besides s, of those with fewer than limit. The layers on the way go into
+// the rows, the first one into the row of 1.
 fn closing(
     layers: &mut [u64; ROWS],
     m: &[u64; ROWS],
@@ -122,12 +122,7 @@ fn best(layers: &mut [u64; ROWS], m: &[u64; ROWS], part: [u64; WORDS]) -> Option
 fn nearer(m: &[u64; ROWS], part: [u64; WORDS], layer: [u64; WORDS], a: usize) -> Option<usize>
     ensures { LowestOf (λ u. takes_part vertices layer u and joined vertices m.now part a u) result }
 {
-    for u in EachVertex(layer) {
-        if takes_part(before(m, part, u), a) {
-            return Some(u);
-        }
-    }
-    None
+    EachVertex(layer).find(|u| takes_part(before(m, part, *u), a))
 }
 
 // Lays down, from place 1 on, the lowest closed walk from s with len vertices besides s, by its layers.

@@ -1,4 +1,5 @@
-// Sets of vertices, in two numbers of 64 marks: vertex v is mark v - 1 of the first, or mark v - 65 of the second.
+// Sets of vertices, in two numbers of 64 marks: vertex v is mark v - 1 of the first, or mark v - 65 of the second. A set that a
+// call answers gets a name of its own before a variable takes it (`let more = ..; all = more;`): the prover follows no shorter way.
 ghost use Rattle.std.specs.Prelude.{◌≡◌, ℕ, suc, ◌≤◌};
 ghost use Rattle.std.specs.Iterator.{at_most};
 ghost use Rattle.words.specs.Tests.{◌is◌, ◌upto◌, ◌and◌, ◌or◌, ◌below◌, fails, some, count};

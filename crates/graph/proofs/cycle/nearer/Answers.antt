@@ -1,15 +1,10 @@
 -- `nearer` meets its contract.
-use mathlib.Core.Path.{sym, ◌∙◌}
-use Rattle.graph.proofs.SetWalks.{sought_here, sought_on, sought_all}
+use borrow.Author.Rules.{rules}
+use Rattle.std.proofs.Common.{tests}
+use Rattle.graph.specs.Matrix.{joined}
+use Rattle.graph.proofs.SetWalks.{lowest_found}
 use Rattle.graph.proofs.cycle.nearer.Goals as goal
 
-pub returns-then-takes_part : goal.returns-then-takes_part
-returns-then-takes_part c =
-    sought_here c.loop-u.invariant c.in-Some.ensures.steps (sym (c.before-in-loop-u.ensures _) ∙ sym c.takes_part.ensures ∙ c.if-takes_part.true)
-
-pub loop-u-preserved : goal.loop-u-preserved
-loop-u-preserved c =
-    sought_on c.loop-u.invariant c.in-Some.ensures.steps (sym (c.before-in-loop-u.ensures _) ∙ sym c.takes_part.ensures ∙ c.if-takes_part.false)
-
 pub returns : goal.returns
-returns c = sought_all c.loop-u.invariant c.in-None.ensures.steps
+returns c =
+    lowest_found (joined 128 c.args.m.now c.args.part c.args.a) _ _ _ (λ x q k. (search rules, search (rules, tests))) (λ x q k. search (rules, tests)) _ _ _ (search rules) c.find.ensures.ran
