@@ -47,8 +47,7 @@ fn bring(
         to_come log.now (up_to_zero order) < to_come log.now (up_to_zero given))) }
 {
     let mut witness = [0u16; Transaction::WITNESS];
-    let answer = next(log, &given, work, &mut witness);
-    match answer {
+    match next(log, &given, work, &mut witness) {
         WitnessAnswer::Judged(Answer::Order(n)) => Ok(Some(print_order(rt, &witness, n)?)),
         _ => Ok(None),
     }
@@ -72,8 +71,7 @@ fn print_later(
 fn print_orders(rt: &impl Print, log: &[u16]) -> io::Result<()> {
     let mut work = [0u8; Log::WORK];
     let mut witness = [0u16; Transaction::WITNESS];
-    let answer = version(log, &mut work, &mut witness);
-    match answer {
+    match version(log, &mut work, &mut witness) {
         WitnessAnswer::Refused(number, place) => return print_refused(rt, number, place),
         WitnessAnswer::Judged(Answer::Order(n)) => {
             let first = print_order(rt, &witness, n)?;
