@@ -19,8 +19,7 @@ fn print_accepts(
     members: &[u16; Transaction::COUNT],
 ) -> io::Result<()> {
     let mut work = [0u8; Log::WORK];
-    let answer = accepts(log, members, &mut work);
-    match answer {
+    match accepts(log, members, &mut work) {
         AcceptsAnswer::Refused(number, place) => print_refused(rt, number, place),
         AcceptsAnswer::Judged(Acceptance::Yes) => rt.write_all(b"yes\n"),
         AcceptsAnswer::Judged(Acceptance::No) => rt.write_all(b"no\n"),

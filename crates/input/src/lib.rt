@@ -97,8 +97,7 @@ fn print_log<F: Fn(&[u16]) -> io::Result<()>>(
     requires { (log : _) → length log.now ≤ step_entries → F.pre print.now log }
 {
     let mut steps = [0u16; 4 * Log::LIMIT];
-    let answer = read(text, &mut steps);
-    match answer {
+    match read(text, &mut steps) {
         TextAnswer::Refused(number, place) => print_refused(rt, number, place),
         TextAnswer::Accepted(n) => print(&steps[..4 * n]),
     }

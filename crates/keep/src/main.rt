@@ -20,8 +20,7 @@ use verdict::{Log, Transaction};
 // Prints the text of a log.
 fn print_text(rt: &impl Print, log: &[u16]) -> io::Result<()> {
     let mut out = [0u8; Text::WRITTEN];
-    let answer = write(log, &mut out);
-    match answer {
+    match write(log, &mut out) {
         TextAnswer::Refused(number, place) => print_refused(rt, number, place),
         TextAnswer::Accepted(n) => rt.write_all(&out[..n]),
     }

@@ -34,8 +34,7 @@ fn shown(answer: Answer) -> Shown {
 fn print_picture(rt: &impl Print, log: &[u16]) -> io::Result<()> {
     let mut work = [0u8; Log::WORK];
     let mut witness = [0u16; Transaction::WITNESS];
-    let answer = version(log, &mut work, &mut witness);
-    match answer {
+    match version(log, &mut work, &mut witness) {
         WitnessAnswer::Refused(number, place) => print_refused(rt, number, place),
         WitnessAnswer::Judged(judged) => {
             Drawing::new(Steps { log }, shown(judged), &witness).print(rt)

@@ -12,8 +12,7 @@ use verdict::{Log, Transaction};
 fn print_redo(rt: &impl Print, log: &[u16]) -> io::Result<()> {
     let mut work = [0u8; Log::WORK];
     let mut members = [0u16; Transaction::COUNT];
-    let answer = redo(log, &mut work, &mut members);
-    match answer {
+    match redo(log, &mut work, &mut members) {
         RedoAnswer::Refused(number, place) => print_refused(rt, number, place),
         RedoAnswer::Proposed(n) => print_numbers(rt, "redo", &members[..n]),
     }

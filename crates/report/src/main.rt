@@ -9,8 +9,7 @@ use text::{Text, TextAnswer, report};
 // Prints the report of a text.
 fn print_report(rt: &impl Print, text: &[u8]) -> io::Result<()> {
     let mut out = [0u8; Text::REPORT];
-    let answer = report(text, &mut out);
-    if let TextAnswer::Accepted(n) = answer {
+    if let TextAnswer::Accepted(n) = report(text, &mut out) {
         rt.write_all(&out[..n])?;
     }
     Ok(())
