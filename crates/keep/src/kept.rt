@@ -13,7 +13,7 @@ fn marked(marks: &[u8; Transaction::TABLE], t: u16) -> bool
     if beyond {
         return false;
     }
-    marks[t as usize] != 0
+    marks[usize::from(t)] != 0
 }
 
 // Copies step i of a log to this place.
@@ -22,10 +22,7 @@ fn copy_step(log: &[u16], i: usize, kept: &mut [u16], at: usize)
     ensures { take (at + 4) kept.new ≡ take at kept.old ++ step log.now i }
 {
     let a = 4 * i;
-    kept[at] = log[a];
-    kept[at + 1] = log[a + 1];
-    kept[at + 2] = log[a + 2];
-    kept[at + 3] = log[a + 3];
+    kept[at..at + 4].copy_from_slice(&log[a..a + 4]);
 }
 
 // Copies step i behind the n numbers that are kept, if its transaction is marked, and answers how many are kept then.

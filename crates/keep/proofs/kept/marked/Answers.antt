@@ -12,4 +12,4 @@ returns-then-beyond c = sym (and_no_left _ (→not_upto (omega arith)))
 
 pub returns : goal.returns
 unfolding marked ◌is◌
-returns c = not_fails _ ∙ sym (and_true (→upto (omega arith)))
+returns c = rw c.from.ensures (not_fails _ ∙ sym (and_true (→upto (omega arith))))
