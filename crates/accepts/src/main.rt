@@ -5,11 +5,11 @@
 mod named;
 
 use crate::named::propose;
-use input::{ARGUMENT, one_log, say};
+use input::{argument, one_log, say};
 use output::{ended, print_refused};
 use plan::{Acceptance, AcceptsAnswer, accepts};
 use std::io;
-use std::rt::{Env, Runtime};
+use std::rt::Runtime;
 use verdict::{Log, Transaction};
 
 // Prints whether a proposal for a log will do.
@@ -26,16 +26,9 @@ fn print_accepts(
     }
 }
 
-// The proposal that the first argument names, if it names one.
-fn propose_first(rt: &impl Env) -> Option<[u16; Transaction::COUNT]> {
-    let mut list = [0u8; ARGUMENT];
-    let n = rt.arg(1, &mut list).ok()?;
-    propose(&list[..n])
-}
-
 // Prints whether the proposal will do for the log that the program is given.
 fn print_given(rt: &impl Runtime) -> io::Result<()> {
-    let Some(members) = propose_first(rt) else {
+    let Some(members) = argument(rt, 1, propose) else {
         say(
             rt,
             "accepts: name the transactions to take back, 1 to 128 with commas between, as in 2,5, or - for none",

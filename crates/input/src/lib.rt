@@ -17,7 +17,7 @@ use text::{Text, TextAnswer, read};
 use verdict::Log;
 
 // How many bytes an argument may have: more than a path that can be opened.
-pub const ARGUMENT: usize = 4096;
+const ARGUMENT: usize = 4096;
 
 // How many arguments there are, with the program's name.
 pub fn arg_count(rt: &impl Env) -> usize {
@@ -30,6 +30,15 @@ pub fn arg_count(rt: &impl Env) -> usize {
         count = i + 1;
     }
     count
+}
+
+// What an argument names, as this function reads its bytes; nothing where there is no such argument, or it is too long.
+pub fn argument<T, F: FnOnce(&[u8]) -> Option<T>>(rt: &impl Env, i: usize, read: F) -> Option<T>
+    requires { F.IsAlwaysCallable read }
+{
+    let mut bytes = [0u8; ARGUMENT];
+    let n = rt.arg(i, &mut bytes).ok()?;
+    read(&bytes[..n])
 }
 
 // Says a line on standard error. Where that fails, nothing can be said.

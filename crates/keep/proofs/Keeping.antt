@@ -19,8 +19,16 @@ step_stands log i n e h =
     let p : a + 1 ≡ suc a = omega arith in
     let q : a + 2 ≡ suc (suc a) = omega arith in
     let r : a + 3 ≡ suc (suc (suc a)) = omega arith in
-    rw (e, drop-cons log a 0 (omega arith), drop-cons log (suc a) 0 (omega arith), drop-cons log (suc (suc a)) 0 (omega arith),
-      drop-cons log (suc (suc (suc a))) 0 (omega arith), p, q, r) refl
+    rw (
+      e,
+      drop-cons log a 0 (omega arith),
+      drop-cons log (suc a) 0 (omega arith),
+      drop-cons log (suc (suc a)) 0 (omega arith),
+      drop-cons log (suc (suc (suc a))) 0 (omega arith),
+      p,
+      q,
+      r,
+    ) refl
 
 module _ (marks log : List ℕ) (i : ℕ) where
   pub keeps_it : marked marks (tx log i) ≡ true → kept_step marks log i ≡ step log i

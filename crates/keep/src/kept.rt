@@ -9,11 +9,7 @@ use verdict::Transaction;
 fn marked(marks: &[u8; Transaction::TABLE], t: u16) -> bool
     ensures { result ≡ Kept·marked marks.now t }
 {
-    let beyond = Transaction::LIMIT < t;
-    if beyond {
-        return false;
-    }
-    marks[usize::from(t)] != 0
+    t <= Transaction::LIMIT && marks[usize::from(t)] != 0
 }
 
 // Copies step i of a log to this place.

@@ -10,10 +10,10 @@ ghost use Rattle.text.specs.ReadCall.{step_entries};
 
 use crate::kept::keep_steps;
 use crate::named::mark_named;
-use input::{ARGUMENT, one_log, say};
+use input::{argument, one_log, say};
 use output::{ended, print_refused};
 use std::io;
-use std::rt::{Env, Runtime};
+use std::rt::Runtime;
 use text::{Text, TextAnswer, write};
 use verdict::{Log, Transaction};
 
@@ -35,16 +35,9 @@ fn print_kept(rt: &impl Print, log: &[u16], marks: &[u8; Transaction::TABLE]) ->
     print_text(rt, &kept[..n])
 }
 
-// The marks of the transactions that the first argument names, if it names any.
-fn mark_first(rt: &impl Env) -> Option<[u8; Transaction::TABLE]> {
-    let mut list = [0u8; ARGUMENT];
-    let n = rt.arg(1, &mut list).ok()?;
-    mark_named(&list[..n])
-}
-
 // Prints what is kept of the log that the program is given.
 fn print_given(rt: &impl Runtime) -> io::Result<()> {
-    let Some(marks) = mark_first(rt) else {
+    let Some(marks) = argument(rt, 1, mark_named) else {
         say(
             rt,
             "keep: name the transactions to keep, 1 to 128 with commas between, as in 1,3",

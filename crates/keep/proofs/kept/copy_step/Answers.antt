@@ -15,4 +15,4 @@ returns c =
     let a = c.args in
     let e : c.copy_from_slice.new.self ≡ _ = c.copy_from_slice.ensures.after ∙ step_stands a.log.now a.i (4 * a.i + 4 - 4 * a.i) (omega arith) c.requires.0 in
     take-put_mid a.at (a.at + 4 - a.at) a.kept.now c.copy_from_slice.new.self (a.at + 4) (ap (λ (n : ℕ). a.at + n) (sym (ap length e))) (omega (arith, c.requires.1))
-        ∙ ap (λ (u : List ℕ). take a.at a.kept.now ++ u) e
+    ∙ ap (λ (u : List ℕ). take a.at a.kept.now ++ u) e
