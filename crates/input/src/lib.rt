@@ -21,15 +21,13 @@ const ARGUMENT: usize = 4096;
 
 // How many arguments there are, with the program's name.
 pub fn arg_count(rt: &impl Env) -> usize {
-    let mut count = 0;
+    let mut bytes = [0u8; ARGUMENT];
     for i in 0..usize::MAX {
-        let mut argument = [0u8; ARGUMENT];
-        if let Err(FillError::NotPresent) = rt.arg(i, &mut argument) {
-            break;
+        if let Err(FillError::NotPresent) = rt.arg(i, &mut bytes) {
+            return i;
         }
-        count = i + 1;
     }
-    count
+    usize::MAX
 }
 
 // What an argument names, as this function reads its bytes; nothing where there is no such argument, or it is too long.

@@ -9,10 +9,7 @@ fn with_digit(number: u16, digit: u8, limit: u16) -> Option<u16>
         return None;
     }
     let more = 10 * u32::from(number) + u32::from(digit - b'0');
-    if more == 0 || u32::from(limit) < more {
-        return None;
-    }
-    Some(more as u16)
+    u16::try_from(more).ok().filter(|n| (1..=limit).contains(n))
 }
 
 // The number that a part of a list names: 1 to the limit, with no zero in front.

@@ -18,11 +18,10 @@ fn read_text(from: &mut impl Read, buffer: &mut [u8]) -> io::Result<usize>
 {
     let mut n = 0;
     while n < buffer.len() {
-        let more = from.read(&mut buffer[n..])?;
-        if more == 0 {
-            break;
+        match from.read(&mut buffer[n..])? {
+            0 => break,
+            more => n += more,
         }
-        n += more;
     }
     Ok(n)
 }

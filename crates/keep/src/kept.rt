@@ -46,6 +46,7 @@ pub(crate) fn keep_steps(log: &[u16], marks: &[u8; Transaction::TABLE], kept: &m
     ensures { (result ≤ length kept.old) × (take result kept.new ≡ Kept·kept marks.now (steps log.now) log.now) }
 {
     let mut n = 0;
+    // What is kept is told by how many steps were gone over, and the loop counts them.
     for i in 0..log.len() / 4 {
         n = keep_step(log, i, marks, kept, n);
     }

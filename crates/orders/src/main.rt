@@ -20,6 +20,7 @@ fn read_order(witness: &[u16], n: usize) -> [u16; Transaction::COUNT]
     ensures { result ≡ handed (read_off n witness.now) }
 {
     let mut order = [0u16; Transaction::COUNT];
+    // An entry is three numbers: the count says it as plainly as an iterator over them.
     for i in 0..n {
         order[i] = witness[3 * i];
     }

@@ -1,10 +1,7 @@
 // The steps of a log, as the picture asks for them.
 use verdict::{Log, Step};
 
-// How many steps a log may have.
-pub(crate) const MOST: u16 = Log::LIMIT as u16;
-
-// A number of steps or members, which are no more than MOST.
+// A number of steps or members, which are no more than a log may have steps.
 pub(crate) fn small(n: usize) -> u16 {
     n.min(Log::LIMIT) as u16
 }
