@@ -1,9 +1,10 @@
-// What is drawn: a log, its lanes, and what the version verdict shows of it, in its witness.
+// The drawing as a whole: a log on its lanes, with the version verdict, and what stands below them.
 use crate::lanes::Lanes;
 use crate::page::{Page, Shown};
 use crate::steps::Steps;
 use std::io;
 
+// What is drawn: the steps of a log, their lanes, where all stands on the page, and the members that the version verdict shows.
 #[derive(Drop)]
 pub(crate) struct Drawing<'a> {
     pub(crate) steps: Steps<'a>,
@@ -13,6 +14,7 @@ pub(crate) struct Drawing<'a> {
 }
 
 impl<'a> Drawing<'a> {
+    // The drawing of a log and of what its verdict shows.
     pub(crate) fn new(steps: Steps<'a>, shown: Shown, witness: &'a [u16]) -> Drawing<'a> {
         let lanes = Lanes::new(steps);
         let page = Page {
