@@ -58,14 +58,13 @@ fn print_input<R: Input + Eprint, F: Fn(&[u8]) -> io::Result<()>>(
     }
 }
 
-// Prints of the text in the file that an argument names, under a line `file=NAME` where that is wanted.
-fn print_file<R: Env + Files + Print + Eprint, F: Fn(&[u8]) -> io::Result<()>>(
+// Prints of the file that an argument names, by its name and its text.
+fn print_file<R: Env + Files + Eprint, F: Fn(&str, &[u8]) -> io::Result<()>>(
     rt: &R,
     i: usize,
-    headed: bool,
-    print: &F,
+    print: F,
 ) -> io::Result<()>
-    requires { F.IsAlwaysCallable print.now }
+    requires { F.IsAlwaysCallable print }
 {
     let mut argument = [0u8; ARGUMENT];
     let mut buffer = [0u8; Text::LIMIT + 1];
@@ -75,10 +74,7 @@ fn print_file<R: Env + Files + Print + Eprint, F: Fn(&[u8]) -> io::Result<()>>(
     let Some(text) = read_file(rt, name, &mut buffer) else {
         return Ok(());
     };
-    if headed {
-        println!(rt; "file={name}")?;
-    }
-    print(text)
+    print(name, text)
 }
 
 // Prints of each text that a program is given: the one on standard input, or in each file named, under a line `file=NAME`.
@@ -90,7 +86,10 @@ pub fn each_text<R: Runtime, F: Fn(&[u8]) -> io::Result<()>>(rt: &R, print: F) -
         return print_input(rt, &print);
     }
     for i in 1..count {
-        print_file(rt, i, true, &print)?;
+        print_file(rt, i, |name: &str, text: &[u8]| {
+            println!(rt; "file={name}")?;
+            print(text)
+        })?;
     }
     Ok(())
 }
@@ -135,5 +134,5 @@ pub fn one_log<R: Runtime, F: Fn(&[u16]) -> io::Result<()>>(
         say(rt, format_args!("{program}: one log at a time"));
         return Ok(());
     }
-    print_file(rt, i, false, &print_text)
+    print_file(rt, i, |_: &str, text: &[u8]| print_text(text))
 }

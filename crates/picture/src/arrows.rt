@@ -114,9 +114,9 @@ impl Drawing<'_> {
     fn arrow(&self, reason: Reason) -> Arrow {
         Arrow {
             x1: self.across(self.first_step(reason)),
-            y1: self.page.down(self.lanes.lane_of(reason.first)),
+            y1: self.down(reason.first),
             x2: self.across(self.second_step(reason)),
-            y2: self.page.down(self.lanes.lane_of(reason.then)),
+            y2: self.down(reason.then),
         }
     }
 

@@ -40,12 +40,19 @@ impl<'a> Drawing<'a> {
         self.page.across(step.unwrap_or(0))
     }
 
+    // How far below the top of the lanes that of a transaction stands; at the top where it has none.
+    pub(crate) fn down(&self, tx: u16) -> u32 {
+        self.lanes
+            .lane_of(tx)
+            .map_or(0, |lane| self.page.down(lane))
+    }
+
     // Prints the ring of a fault, if there is one.
     fn print_ring(&self, rt: &impl Print) -> io::Result<()> {
-        if let Shown::Unclean(fault) = self.page.shown {
-            let step = self.steps.at(fault);
-            self.page
-                .print_fault(rt, fault, self.lanes.lane_of(step.tx))?;
+        if let Shown::Unclean(fault) = self.page.shown
+            && let Some(step) = self.steps.at(fault)
+        {
+            self.page.print_fault(rt, fault, self.down(step.tx))?;
         }
         Ok(())
     }

@@ -6,10 +6,10 @@ use crate::steps::Steps;
 use std::io;
 use verdict::{Step, Transaction};
 
-// The lane of each transaction, 0 where it has none, and how many lanes there are.
+// The lane of each transaction that has one, and how many lanes there are.
 #[derive(Drop)]
 pub(crate) struct Lanes {
-    of: [u16; Transaction::TABLE],
+    of: [Option<u16>; Transaction::TABLE],
     pub(crate) count: u16,
 }
 
@@ -17,7 +17,9 @@ pub(crate) struct Lanes {
 fn mark_all(steps: Steps<'_>) -> [bool; Transaction::TABLE] {
     let mut marks = [false; Transaction::TABLE];
     for i in 0..steps.count() {
-        if let Some(mark) = marks.get_mut(usize::from(steps.at(i).tx)) {
+        if let Some(step) = steps.at(i)
+            && let Some(mark) = marks.get_mut(usize::from(step.tx))
+        {
             *mark = true;
         }
     }
@@ -28,20 +30,20 @@ impl Lanes {
     // A lane for each transaction that has a step.
     pub(crate) fn new(steps: Steps<'_>) -> Lanes {
         let marks = mark_all(steps);
-        let mut of = [0u16; Transaction::TABLE];
+        let mut of = [None; Transaction::TABLE];
         let mut count = 0;
         for tx in 1..Transaction::TABLE {
             if marks[tx] {
                 count += 1;
-                of[tx] = count;
+                of[tx] = Some(count);
             }
         }
         Lanes { of, count }
     }
 
-    // The lane of a transaction, 0 where it has none.
-    pub(crate) fn lane_of(&self, tx: u16) -> u16 {
-        self.of.get(usize::from(tx)).copied().unwrap_or(0)
+    // The lane of a transaction.
+    pub(crate) fn lane_of(&self, tx: u16) -> Option<u16> {
+        self.of.get(usize::from(tx)).copied().flatten()
     }
 }
 
@@ -66,8 +68,9 @@ impl Drawing<'_> {
     fn print_lane(&self, rt: &impl Print, tx: u16, lane: u16) -> io::Result<()> {
         self.open_lane(rt, tx, lane)?;
         for i in 0..self.page.steps {
-            let step = self.steps.at(i);
-            if step.tx == tx {
+            if let Some(step) = self.steps.at(i)
+                && step.tx == tx
+            {
                 self.page.print_mark(rt, i, step)?;
             }
         }
@@ -77,8 +80,7 @@ impl Drawing<'_> {
     // Prints the lanes.
     pub(crate) fn print_lanes(&self, rt: &impl Print) -> io::Result<()> {
         for tx in 1..=Transaction::LIMIT {
-            let lane = self.lanes.lane_of(tx);
-            if 0 < lane {
+            if let Some(lane) = self.lanes.lane_of(tx) {
                 self.print_lane(rt, tx, lane)?;
             }
         }

@@ -18,29 +18,24 @@ impl Steps<'_> {
         small(self.log.len() / 4)
     }
 
-    // Step i. Beyond the end there is a step of no kind.
-    pub(crate) fn at(self, i: u16) -> Step {
+    // Step i.
+    pub(crate) fn at(self, i: u16) -> Option<Step> {
         let a = 4 * usize::from(i);
         match self.log.get(a..a + 4) {
-            Some([kind, tx, obj, src]) => Step {
+            Some([kind, tx, obj, src]) => Some(Step {
                 kind: *kind,
                 tx: *tx,
                 obj: *obj,
                 src: *src,
-            },
-            _ => Step {
-                kind: 0,
-                tx: 0,
-                obj: 0,
-                src: 0,
-            },
+            }),
+            _ => None,
         }
     }
 
     // Where a transaction does something to an object, the last time.
     pub(crate) fn last_of(self, kind: u16, tx: u16, obj: u16, src: u16) -> Option<u16> {
         let step = Step { kind, tx, obj, src };
-        (0..self.count()).rev().find(|i| self.at(*i) == step)
+        (0..self.count()).rev().find(|i| self.at(*i) == Some(step))
     }
 
     // Where a transaction ends by an abort.
@@ -57,7 +52,7 @@ impl Steps<'_> {
     // The writer of an object's version that a transaction has replaced by its own: who committed last before it, of those that write the object.
     pub(crate) fn version_before(self, obj: u16, tx: u16) -> u16 {
         (0..self.count())
-            .map(|i| self.at(i))
+            .filter_map(|i| self.at(i))
             .filter(|step| step.kind == Step::COMMIT)
             .take_while(|step| step.tx != tx)
             .filter(|step| self.last_of(Step::WRITE, step.tx, obj, 0).is_some())

@@ -51,10 +51,9 @@ impl Page {
         Ok(())
     }
 
-    // Prints a ring around the step of a fault.
-    pub(crate) fn print_fault(self, rt: &impl Print, i: u16, lane: u16) -> io::Result<()> {
+    // Prints a ring around the step of a fault, on the lane that stands so far down.
+    pub(crate) fn print_fault(self, rt: &impl Print, i: u16, y: u32) -> io::Result<()> {
         let x = self.across(i);
-        let y = self.down(lane);
         if self.labelled() {
             print!(rt; "<g class='fault' transform='translate({x},{y})'>")?;
         } else {
