@@ -47,9 +47,9 @@ pub fn say(rt: &impl Eprint, line: impl fmt::Display + Drop) {
 // Prints of the text on standard input.
 fn print_input<R: Input + Eprint, F: Fn(&[u8]) -> io::Result<()>>(
     rt: &R,
-    print: &F,
+    print: F,
 ) -> io::Result<()>
-    requires { F.IsAlwaysCallable print.now }
+    requires { F.IsAlwaysCallable print }
 {
     let mut buffer = [0u8; Text::LIMIT + 1];
     match read_input(rt, &mut buffer) {
@@ -83,7 +83,7 @@ pub fn each_text<R: Runtime, F: Fn(&[u8]) -> io::Result<()>>(rt: &R, print: F) -
 {
     let count = arg_count(rt);
     if count < 2 {
-        return print_input(rt, &print);
+        return print_input(rt, print);
     }
     for i in 1..count {
         print_file(rt, i, |name: &str, text: &[u8]| {
@@ -126,13 +126,12 @@ pub fn one_log<R: Runtime, F: Fn(&[u16]) -> io::Result<()>>(
     requires { (log : _) → length log.now ≤ step_entries → F.pre print log }
 {
     let count = arg_count(rt);
-    let print_text = |text: &[u8]| print_log(rt, text, &print);
     if count <= i {
-        return print_input(rt, &print_text);
+        return print_input(rt, |text: &[u8]| print_log(rt, text, &print));
     }
     if 1 < count - i {
         say(rt, format_args!("{program}: one log at a time"));
         return Ok(());
     }
-    print_file(rt, i, |_: &str, text: &[u8]| print_text(text))
+    print_file(rt, i, |_: &str, text: &[u8]| print_log(rt, text, &print))
 }
