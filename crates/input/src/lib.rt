@@ -4,7 +4,7 @@
 mod named;
 mod reading;
 
-ghost use Rattle.std.specs.Prelude.{◌≤◌, length};
+ghost use Rattle.std.specs.Prelude.{◌≤◌, length, IfSome};
 ghost use Rattle.text.specs.ReadCall.{step_entries};
 
 use crate::reading::{file_name, read_file, read_input};
@@ -33,6 +33,7 @@ pub fn arg_count(rt: &impl Env) -> usize {
 // What an argument names, as this function reads its bytes; nothing where there is no such argument, or it is too long.
 pub fn argument<T, F: FnOnce(&[u8]) -> Option<T>>(rt: &impl Env, i: usize, read: F) -> Option<T>
     requires { F.IsAlwaysCallable read }
+    ensures { IfSome result (λ x. (bytes : _) × F.post read bytes (Some x)) }
 {
     let mut bytes = [0u8; ARGUMENT];
     let n = rt.arg(i, &mut bytes).ok()?;

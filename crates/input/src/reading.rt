@@ -1,6 +1,6 @@
 // What standard input and files hold, read into a lent buffer. Where reading fails, standard error has a line.
-ghost use Rattle.std.specs.Prelude.{◌≤◌, length};
-ghost use Rattle.std.specs.Io.{ReadsAtMost};
+ghost use Rattle.std.specs.Prelude.{◌≤◌, length, IfSome};
+ghost use Rattle.std.specs.Io.{ReadsAtMost, StartsWith};
 
 use crate::{ARGUMENT, say};
 use std::io::Read;
@@ -34,6 +34,7 @@ fn told<'a>(
     buffer: &'a [u8],
 ) -> Option<&'a [u8]>
     requires { ReadsAtMost read buffer.now }
+    ensures { IfSome result (λ text. StartsWith buffer.now text.now) }
 {
     match read {
         Ok(n) => Some(&buffer[..n]),
@@ -45,7 +46,9 @@ fn told<'a>(
 }
 
 // Reads standard input.
-pub(crate) fn read_input<'a, R: Input + Eprint>(rt: &R, buffer: &'a mut [u8]) -> Option<&'a [u8]> {
+pub(crate) fn read_input<'a, R: Input + Eprint>(rt: &R, buffer: &'a mut [u8]) -> Option<&'a [u8]>
+    ensures { IfSome result (λ text. length text.now ≤ length buffer.old) }
+{
     let read = read_text(&mut rt.reader(), buffer);
     told(rt, "standard input", read, buffer)
 }
@@ -63,7 +66,9 @@ pub(crate) fn read_file<'a, R: Files + Eprint>(
     rt: &R,
     name: &str,
     buffer: &'a mut [u8],
-) -> Option<&'a [u8]> {
+) -> Option<&'a [u8]>
+    ensures { IfSome result (λ text. length text.now ≤ length buffer.old) }
+{
     let read = read_opened(rt, name, buffer);
     told(rt, name, read, buffer)
 }
