@@ -1,39 +1,43 @@
-// What a program is given: standard input, the files that its arguments name, and lists of numbers.
+// What a program is given: the texts and logs on standard input or in the files that its arguments name, and lists of numbers.
 #![tactic(auto)]
 
 mod named;
+mod reading;
 
-ghost use Rattle.std.specs.Prelude.{◌≡◌, ◌≤◌, length, IfOk};
-ghost use Rattle.std.specs.Io.{ReadsAtMost};
-ghost use Rattle.std.specs.Counts.{IsPrefixLen};
+ghost use Rattle.std.specs.Prelude.{◌≤◌, length, IfSome};
+ghost use Rattle.text.specs.ReadCall.{step_entries};
 
-pub use named::{Listed, number_at};
+use crate::reading::{file_name, read_file, read_input};
+pub use named::number_of;
+use output::print_refused;
 use std::env::FillError;
-use std::io::Read;
-use std::rt::{Env, Files};
-use std::{fmt, fs, io, str};
+use std::rt::{Env, Files, Runtime};
+use std::{fmt, io};
+use text::{Text, TextAnswer, read};
+use verdict::Log;
 
 // How many bytes an argument may have: more than a path that can be opened.
-pub const ARGUMENT: usize = 4096;
-
-// What reading gives: how many bytes stand at the start of the buffer, and whether it failed.
-#[derive(Drop)]
-pub struct Got {
-    pub bytes: usize,
-    pub failed: bool,
-}
+const ARGUMENT: usize = 4096;
 
 // How many arguments there are, with the program's name.
 pub fn arg_count(rt: &impl Env) -> usize {
-    let mut count = 0;
+    let mut bytes = [0u8; ARGUMENT];
     for i in 0..usize::MAX {
-        let mut argument = [0u8; ARGUMENT];
-        if let Err(FillError::NotPresent) = rt.arg(i, &mut argument) {
-            break;
+        if let Err(FillError::NotPresent) = rt.arg(i, &mut bytes) {
+            return i;
         }
-        count = i + 1;
     }
-    count
+    usize::MAX
+}
+
+// What an argument names, as this function reads its bytes; nothing where there is no such argument, or it is too long.
+pub fn argument<T, F: FnOnce(&[u8]) -> Option<T>>(rt: &impl Env, i: usize, read: F) -> Option<T>
+    requires { F.IsAlwaysCallable read }
+    ensures { IfSome result (λ x. (bytes : _) × F.post read bytes (Some x)) }
+{
+    let mut bytes = [0u8; ARGUMENT];
+    let n = rt.arg(i, &mut bytes).ok()?;
+    read(&bytes[..n])
 }
 
 // Says a line on standard error. Where that fails, nothing can be said.
@@ -41,82 +45,94 @@ pub fn say(rt: &impl Eprint, line: impl fmt::Display + Drop) {
     let _ = rt.eprintln(line);
 }
 
-// Says on standard error what could not be read, and why.
-fn fail(rt: &impl Eprint, what: impl fmt::Display + Drop, why: impl fmt::Display + Drop) -> Got
-    ensures { result.bytes ≡ 0 }
+// Prints of the text on standard input.
+fn print_input<R: Input + Eprint, F: Fn(&[u8]) -> io::Result<()>>(
+    rt: &R,
+    print: F,
+) -> io::Result<()>
+    requires { F.IsAlwaysCallable print }
 {
-    say(rt, format_args!("{what}: {why}"));
-    Got {
-        bytes: 0,
-        failed: true,
+    let mut buffer = [0u8; Text::LIMIT + 1];
+    match read_input(rt, &mut buffer) {
+        Some(text) => print(text),
+        None => Ok(()),
     }
 }
 
-// Reads until the input ends or the buffer is full, and answers how many bytes stand at its start.
-fn read_text(from: &mut impl Read, text: &mut [u8]) -> io::Result<usize>
-    ensures { ReadsAtMost result text.new }
-{
-    let mut n = 0;
-    while n < text.len() {
-        let more = from.read(&mut text[n..])?;
-        if more == 0 {
-            break;
-        }
-        n += more;
-    }
-    Ok(n)
-}
-
-// What reading has given. Where it failed, standard error has a line.
-fn told(rt: &impl Eprint, what: &str, read: io::Result<usize>, text: &[u8]) -> Got
-    requires { ReadsAtMost read text.now }
-    ensures { IsPrefixLen result.bytes text.now }
-{
-    match read {
-        Ok(bytes) => Got {
-            bytes,
-            failed: false,
-        },
-        Err(error) => fail(rt, what, error),
-    }
-}
-
-// Reads standard input. Where that fails, standard error has a line.
-pub fn read_input<R: Input + Eprint>(rt: &R, text: &mut [u8]) -> Got
-    ensures { IsPrefixLen result.bytes text.new }
-{
-    let read = read_text(&mut rt.reader(), text);
-    told(rt, "standard input", read, text)
-}
-
-// Reads the file of this name.
-fn read_file(rt: &impl Files, name: &str, text: &mut [u8]) -> io::Result<usize>
-    ensures { ReadsAtMost result text.new }
-{
-    let mut file = fs::open(rt, name)?;
-    read_text(&mut file, text)
-}
-
-// Reads the file that an argument names. Where that fails, standard error has a line.
-pub fn read_named<R: Env + Files + Eprint>(rt: &R, i: usize, text: &mut [u8]) -> Got
-    ensures { IsPrefixLen result.bytes text.new }
+// Prints of the file that an argument names, by its name and its text.
+fn print_file<R: Env + Files + Eprint, F: Fn(&str, &[u8]) -> io::Result<()>>(
+    rt: &R,
+    i: usize,
+    print: F,
+) -> io::Result<()>
+    requires { F.IsAlwaysCallable print }
 {
     let mut argument = [0u8; ARGUMENT];
-    match rt.arg(i, &mut argument) {
-        Ok(n) => match str::from_utf8(&argument[..n]) {
-            Ok(name) => {
-                let read = read_file(rt, name, text);
-                told(rt, name, read, text)
-            }
-            Err(error) => fail(rt, argument[..n].escape_ascii(), error),
-        },
-        Err(_) => fail(rt, "a file name", "File name too long"),
+    let mut buffer = [0u8; Text::LIMIT + 1];
+    let Some(name) = file_name(rt, i, &mut argument) else {
+        return Ok(());
+    };
+    let Some(text) = read_file(rt, name, &mut buffer) else {
+        return Ok(());
+    };
+    print(name, text)
+}
+
+// Prints of each text that a program is given: the one on standard input, or in each file named, under a line `file=NAME`.
+pub fn each_text<R: Runtime, F: Fn(&[u8]) -> io::Result<()>>(rt: &R, print: F) -> io::Result<()>
+    requires { F.IsAlwaysCallable print }
+{
+    let count = arg_count(rt);
+    if count < 2 {
+        return print_input(rt, print);
+    }
+    for i in 1..count {
+        print_file(rt, i, |name: &str, text: &[u8]| {
+            println!(rt; "file={name}")?;
+            print(text)
+        })?;
+    }
+    Ok(())
+}
+
+// Prints of the log of a text. One that is turned away gets the line of its refusal instead.
+fn print_log<F: Fn(&[u16]) -> io::Result<()>>(
+    rt: &impl Print,
+    text: &[u8],
+    print: &F,
+) -> io::Result<()>
+    requires { (log : _) → length log.now ≤ step_entries → F.pre print.now log }
+{
+    let mut steps = [0u16; 4 * Log::LIMIT];
+    match read(text, &mut steps) {
+        TextAnswer::Refused(number, place) => print_refused(rt, number, place),
+        TextAnswer::Accepted(n) => print(&steps[..4 * n]),
     }
 }
 
-// Prints the line `file=NAME` for the file that an argument names.
-pub fn print_named<R: Env + Print>(rt: &R, i: usize) -> io::Result<()> {
-    let mut name = [0u8; ARGUMENT];
-    let n = rt.arg(i, &mut name).unwrap_or(0);
-    output::print_file(rt, &name[..n])
+// Prints of each log that a program is given, as of each text.
+pub fn each_log<R: Runtime, F: Fn(&[u16]) -> io::Result<()>>(rt: &R, print: F) -> io::Result<()>
+    requires { (log : _) → length log.now ≤ step_entries → F.pre print log }
+{
+    each_text(rt, |text: &[u8]| print_log(rt, text, &print))
+}
+
+// Prints of the log on standard input, or in the file that this argument names. A program takes no argument behind it.
+pub fn one_log<R: Runtime, F: Fn(&[u16]) -> io::Result<()>>(
+    rt: &R,
+    program: &str,
+    i: usize,
+    print: F,
+) -> io::Result<()>
+    requires { (log : _) → length log.now ≤ step_entries → F.pre print log }
+{
+    let count = arg_count(rt);
+    if count <= i {
+        return print_input(rt, |text: &[u8]| print_log(rt, text, &print));
+    }
+    if 1 < count - i {
+        say(rt, format_args!("{program}: one log at a time"));
+        return Ok(());
+    }
+    print_file(rt, i, |_: &str, text: &[u8]| print_log(rt, text, &print))
 }

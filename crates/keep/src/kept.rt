@@ -9,11 +9,7 @@ use verdict::Transaction;
 fn marked(marks: &[u8; Transaction::TABLE], t: u16) -> bool
     ensures { result ≡ Kept·marked marks.now t }
 {
-    let beyond = Transaction::LIMIT < t;
-    if beyond {
-        return false;
-    }
-    marks[t as usize] != 0
+    t <= Transaction::LIMIT && marks[usize::from(t)] != 0
 }
 
 // Copies step i of a log to this place.
@@ -22,10 +18,7 @@ fn copy_step(log: &[u16], i: usize, kept: &mut [u16], at: usize)
     ensures { take (at + 4) kept.new ≡ take at kept.old ++ step log.now i }
 {
     let a = 4 * i;
-    kept[at] = log[a];
-    kept[at + 1] = log[a + 1];
-    kept[at + 2] = log[a + 2];
-    kept[at + 3] = log[a + 3];
+    kept[at..at + 4].copy_from_slice(&log[a..a + 4]);
 }
 
 // Copies step i behind the n numbers that are kept, if its transaction is marked, and answers how many are kept then.
@@ -53,6 +46,7 @@ pub(crate) fn keep_steps(log: &[u16], marks: &[u8; Transaction::TABLE], kept: &m
     ensures { (result ≤ length kept.old) × (take result kept.new ≡ Kept·kept marks.now (steps log.now) log.now) }
 {
     let mut n = 0;
+    // What is kept is told by how many steps were gone over, and the loop counts them.
     for i in 0..log.len() / 4 {
         n = keep_step(log, i, marks, kept, n);
     }

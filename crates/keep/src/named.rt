@@ -1,18 +1,13 @@
 // The transactions that a list like `1,3` names.
-use input::number_at;
+use input::number_of;
 use verdict::Transaction;
 
-// Marks the transactions that a list names. Whether it is such a list.
-pub(crate) fn mark_named(list: &[u8], marks: &mut [u8; Transaction::TABLE]) -> bool {
-    let mut at = 0;
-    while at <= list.len() {
-        let listed = number_at(list, at, Transaction::LIMIT);
-        let number = listed.number;
-        if number == 0 {
-            return false;
-        }
-        marks[number as usize] = 1;
-        at = listed.end + 1;
+// The marks of the transactions that a list names; None where it is not such a list.
+pub(crate) fn mark_named(list: &[u8]) -> Option<[u8; Transaction::TABLE]> {
+    let mut marks = [0u8; Transaction::TABLE];
+    for part in list.split(|byte| *byte == b',') {
+        let number = number_of(part, Transaction::LIMIT)?;
+        marks[usize::from(number)] = 1;
     }
-    true
+    Some(marks)
 }

@@ -1,3 +1,2 @@
 -- What the program's proofs rest on beside verdict's theorems.
 pub mod Bringing
-pub mod Left

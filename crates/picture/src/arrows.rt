@@ -1,19 +1,26 @@
 // The arrows of a cycle: from each member to the following one, with its reason.
-use crate::fill::print_filled;
-use crate::lanes::lane_of;
-use crate::page::{Page, across, down, few_arrows, labelled};
-use crate::steps::{NUMBERS, last_of, version_before};
-use crate::texts::entry;
-use std::io;
-use verdict::{RW, Step, Transaction, WR, WW};
+use crate::drawing::Drawing;
+use std::{fmt, io};
+use verdict::{RW, Step, WR, WW};
 
-// Why one transaction must come before another: the kind of the reason, and its object.
+// Why one transaction must come before another: the kind of the reason, and its object, as in `rw:0`.
 #[derive(Clone, Copy)]
-struct Reason {
-    first: u16,
+pub(crate) struct Reason {
+    pub(crate) first: u16,
     then: u16,
     kind: u16,
     obj: u16,
+}
+
+impl fmt::Display for Reason {
+    fn fmt<W: fmt::Write>(&self, f: &mut fmt::Formatter<W>) -> fmt::Result {
+        let obj = self.obj;
+        match self.kind {
+            WW => write!(f, "ww:{obj}"),
+            WR => write!(f, "wr:{obj}"),
+            _ => write!(f, "rw:{obj}"),
+        }
+    }
 }
 
 // An arrow, by its ends on the page.
@@ -25,164 +32,131 @@ struct Arrow {
     y2: u32,
 }
 
-// The reason of member i of a cycle. Behind the last member comes the first.
-fn reason_at(witness: &[u16; Transaction::WITNESS], i: u16, members: u16) -> Reason {
-    let a = 3 * i as usize;
-    let mut b = a + 3;
-    if members as usize * 3 <= b {
-        b = 0;
-    }
-    Reason {
-        first: entry(witness, a),
-        then: entry(witness, b),
-        kind: entry(witness, a + 1),
-        obj: entry(witness, a + 2),
-    }
-}
-
-// The step of the first transaction that a reason speaks of: its write of the object, or its read of the version that the second replaced.
-fn first_step(log: &[u16; NUMBERS], reason: Reason) -> u16 {
-    if reason.kind == RW {
-        let writer = version_before(log, reason.obj, reason.then);
-        return last_of(log, Step::READ, reason.first, reason.obj, writer);
-    }
-    last_of(log, Step::WRITE, reason.first, reason.obj, 0)
-}
-
-// The step of the second transaction: its read of what the first wrote, or its write of the object.
-fn second_step(log: &[u16; NUMBERS], reason: Reason) -> u16 {
-    if reason.kind == WR {
-        return last_of(log, Step::READ, reason.then, reason.obj, reason.first);
-    }
-    last_of(log, Step::WRITE, reason.then, reason.obj, 0)
-}
-
-// The arrow of a reason.
-fn arrow_of(
-    page: Page,
-    log: &[u16; NUMBERS],
-    lanes: &[u16; Transaction::TABLE],
-    reason: Reason,
-) -> Arrow {
-    Arrow {
-        x1: across(page, first_step(log, reason)),
-        y1: down(page, lane_of(lanes, reason.first)),
-        x2: across(page, second_step(log, reason)),
-        y2: down(page, lane_of(lanes, reason.then)),
-    }
-}
-
 // A place on the way from a to b, at a sixth of it.
 fn sixth(a: u32, b: u32) -> u32 {
-    ((5 * a as u64 + b as u64) / 6) as u32
+    ((5 * u64::from(a) + u64::from(b)) / 6) as u32
 }
 
 // A place on the way from a to b, at a quarter of it.
 fn quarter(a: u32, b: u32) -> u32 {
-    ((3 * a as u64 + b as u64) / 4) as u32
+    ((3 * u64::from(a) + u64::from(b)) / 4) as u32
 }
 
 // A place on the way from a to b, at three eighths of it.
 fn past_third(a: u32, b: u32) -> u32 {
-    ((5 * a as u64 + 3 * b as u64) / 8) as u32
+    ((5 * u64::from(a) + 3 * u64::from(b)) / 8) as u32
 }
 
 // A place on the way from a to b, at four ninths of it.
 fn before_half(a: u32, b: u32) -> u32 {
-    ((5 * a as u64 + 4 * b as u64) / 9) as u32
+    ((5 * u64::from(a) + 4 * u64::from(b)) / 9) as u32
 }
 
-// Prints the line of an arrow. It leaves its lane straight down or up, and comes to the other one so, too.
-fn print_line(rt: &impl Print, arrow: Arrow) -> io::Result<()> {
-    let near = quarter(arrow.y1, arrow.y2);
-    let far = quarter(arrow.y2, arrow.y1);
-    print_filled(
-        rt,
-        b"<path class='arrow' marker-end='url(#head)' d='M% %C% % % %",
-        &[arrow.x1, arrow.y1, arrow.x1, far, arrow.x2, near],
-    )?;
-    print_filled(rt, b" % %'/>\n", &[arrow.x2, arrow.y2])
-}
-
-// Opens the sign that bears a reason.
-fn open_sign(rt: &impl Print, page: Page, x: u32, y: u32) -> io::Result<()> {
-    if labelled(page) {
-        return print_filled(
-            rt,
-            b"<g class='reason' transform='translate(%,%)'>",
-            &[x, y],
-        );
-    }
-    if few_arrows(page) {
-        return print_filled(
-            rt,
-            b"<g class='reason' transform='translate(%,%) scale(1.2)'>",
-            &[x, y],
-        );
-    }
-    print_filled(
-        rt,
-        b"<g class='reason' transform='translate(%,%) scale(.6)'>",
-        &[x, y],
-    )
-}
-
-// Opens it on the line of an arrow, nearer to its first end; where lanes are narrow not so near, since the source of a read stands there.
-fn open_reason(rt: &impl Print, page: Page, arrow: Arrow) -> io::Result<()> {
-    if page.lanes <= 6 {
-        return open_sign(
-            rt,
-            page,
-            sixth(arrow.x1, arrow.x2),
-            past_third(arrow.y1, arrow.y2),
-        );
-    }
-    open_sign(
-        rt,
-        page,
-        past_third(arrow.x1, arrow.x2),
-        before_half(arrow.y1, arrow.y2),
-    )
-}
-
-// Prints the reason of an arrow.
-fn print_reason(rt: &impl Print, page: Page, arrow: Arrow, reason: Reason) -> io::Result<()> {
-    let kind = reason.kind;
-    open_reason(rt, page, arrow)?;
-    rt.write_all(b"<rect x='-23' y='-10' width='46' height='20' rx='4'/>")?;
-    match kind {
-        WW => print_filled(rt, b"<text y='5'>ww:%</text></g>\n", &[reason.obj as u32]),
-        WR => print_filled(rt, b"<text y='5'>wr:%</text></g>\n", &[reason.obj as u32]),
-        _ => print_filled(rt, b"<text y='5'>rw:%</text></g>\n", &[reason.obj as u32]),
+impl Arrow {
+    // Prints its line. It leaves its lane straight down or up, and comes to the other one so, too.
+    fn print(self, rt: &impl Print) -> io::Result<()> {
+        let Arrow { x1, y1, x2, y2 } = self;
+        let near = quarter(y1, y2);
+        let far = quarter(y2, y1);
+        print!(rt;
+            "<path class='arrow' marker-end='url(#head)' d='M{x1} {y1}C{x1} {far} {x2} {near} {x2} {y2}'/>\n"
+        )
     }
 }
 
-// Prints the lines of a cycle's arrows.
-pub(crate) fn print_arrows(
-    rt: &impl Print,
-    page: Page,
-    log: &[u16; NUMBERS],
-    lanes: &[u16; Transaction::TABLE],
-    witness: &[u16; Transaction::WITNESS],
-) -> io::Result<()> {
-    for i in 0..page.cycle {
-        let reason = reason_at(witness, i, page.cycle);
-        print_line(rt, arrow_of(page, log, lanes, reason))?;
+impl Drawing<'_> {
+    // The reason of member i of a cycle. Behind the last member comes the first.
+    pub(crate) fn reason(&self, i: u16) -> Reason {
+        let a = 3 * usize::from(i);
+        let b = if a + 3 < 3 * usize::from(self.page.cycle()) {
+            a + 3
+        } else {
+            0
+        };
+        Reason {
+            first: self.entry(a),
+            then: self.entry(b),
+            kind: self.entry(a + 1),
+            obj: self.entry(a + 2),
+        }
     }
-    Ok(())
-}
 
-// Prints the reasons of a cycle's arrows.
-pub(crate) fn print_reasons(
-    rt: &impl Print,
-    page: Page,
-    log: &[u16; NUMBERS],
-    lanes: &[u16; Transaction::TABLE],
-    witness: &[u16; Transaction::WITNESS],
-) -> io::Result<()> {
-    for i in 0..page.cycle {
-        let reason = reason_at(witness, i, page.cycle);
-        print_reason(rt, page, arrow_of(page, log, lanes, reason), reason)?;
+    // The step of the first transaction that a reason speaks of: its write of the object, or its read of the version that the second replaced.
+    fn first_step(&self, reason: Reason) -> Option<u16> {
+        let Reason {
+            first,
+            then,
+            kind,
+            obj,
+        } = reason;
+        if kind == RW {
+            let writer = self.steps.version_before(obj, then);
+            return self.steps.last_of(Step::READ, first, obj, writer);
+        }
+        self.steps.last_of(Step::WRITE, first, obj, 0)
     }
-    Ok(())
+
+    // The step of the second transaction: its read of what the first wrote, or its write of the object.
+    fn second_step(&self, reason: Reason) -> Option<u16> {
+        let Reason {
+            first,
+            then,
+            kind,
+            obj,
+        } = reason;
+        if kind == WR {
+            return self.steps.last_of(Step::READ, then, obj, first);
+        }
+        self.steps.last_of(Step::WRITE, then, obj, 0)
+    }
+
+    // The arrow of a reason.
+    fn arrow(&self, reason: Reason) -> Arrow {
+        Arrow {
+            x1: self.across(self.first_step(reason)),
+            y1: self.down(reason.first),
+            x2: self.across(self.second_step(reason)),
+            y2: self.down(reason.then),
+        }
+    }
+
+    // Opens the sign that bears a reason.
+    fn open_sign(&self, rt: &impl Print, x: u32, y: u32) -> io::Result<()> {
+        if self.page.labelled() {
+            return print!(rt; "<g class='reason' transform='translate({x},{y})'>");
+        }
+        if self.page.few_arrows() {
+            return print!(rt; "<g class='reason' transform='translate({x},{y}) scale(1.2)'>");
+        }
+        print!(rt; "<g class='reason' transform='translate({x},{y}) scale(.6)'>")
+    }
+
+    // Opens it on the line of an arrow, nearer to its first end; where lanes are narrow not so near, since the source of a read stands there.
+    fn open_reason(&self, rt: &impl Print, arrow: Arrow) -> io::Result<()> {
+        let Arrow { x1, y1, x2, y2 } = arrow;
+        if self.page.lanes <= 6 {
+            return self.open_sign(rt, sixth(x1, x2), past_third(y1, y2));
+        }
+        self.open_sign(rt, past_third(x1, x2), before_half(y1, y2))
+    }
+
+    // Prints the lines of a cycle's arrows.
+    pub(crate) fn print_arrows(&self, rt: &impl Print) -> io::Result<()> {
+        for i in 0..self.page.cycle() {
+            self.arrow(self.reason(i)).print(rt)?;
+        }
+        Ok(())
+    }
+
+    // Prints the reasons of a cycle's arrows.
+    pub(crate) fn print_reasons(&self, rt: &impl Print) -> io::Result<()> {
+        for i in 0..self.page.cycle() {
+            let reason = self.reason(i);
+            self.open_reason(rt, self.arrow(reason))?;
+            print!(rt;
+                "<rect x='-23' y='-10' width='46' height='20' rx='4'/><text y='5'>{reason}</text></g>\n"
+            )?;
+        }
+        Ok(())
+    }
 }

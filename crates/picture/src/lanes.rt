@@ -1,120 +1,89 @@
 // The lanes: one for each transaction that has a step, in the order of their numbers.
 ghost use Rattle.std.specs.Prelude.{◌+◌, ◌≤◌};
 
-use crate::fill::print_filled;
-use crate::marks::print_mark;
-use crate::page::{Page, across, down, number_across};
-use crate::steps::{MOST, NUMBERS, aborted, end_of, last_of, step_at};
+use crate::drawing::Drawing;
+use crate::steps::Steps;
 use std::io;
 use verdict::{Step, Transaction};
 
-// Marks the transaction of a step.
-fn mark_one(lanes: &mut [u16; Transaction::TABLE], tx: u16) {
-    if tx <= Transaction::LIMIT {
-        lanes[tx as usize] = 1;
-    }
+// The lane of each transaction that has one, and how many lanes there are.
+#[derive(Drop)]
+pub(crate) struct Lanes {
+    of: [Option<u16>; Transaction::TABLE],
+    pub(crate) count: u16,
 }
 
-// Marks the transactions that have a step.
-fn mark_all(log: &[u16; NUMBERS], lanes: &mut [u16; Transaction::TABLE], steps: u16) {
-    for i in 0..steps {
-        let step = step_at(log, i);
-        mark_one(lanes, step.tx);
-    }
-}
-
-// The next lane for a transaction that is marked.
-fn give(lanes: &mut [u16; Transaction::TABLE], tx: u16, given: u16) -> u16
-    requires { given ≤ 1000 }
-    ensures { result ≤ given + 1 }
-{
-    if Transaction::LIMIT < tx {
-        return given;
-    }
-    if lanes[tx as usize] == 0 {
-        return given;
-    }
-    lanes[tx as usize] = given + 1;
-    given + 1
-}
-
-// Gives each transaction that has a step its lane, and answers how many there are.
-pub(crate) fn give_lanes(
-    log: &[u16; NUMBERS],
-    lanes: &mut [u16; Transaction::TABLE],
-    steps: u16,
-) -> u16 {
-    mark_all(log, lanes, steps);
-    let mut given = 0;
-    for tx in 1..=Transaction::LIMIT {
-        given = give(lanes, tx, given);
-    }
-    given
-}
-
-// The lane of a transaction, 0 where it has none.
-pub(crate) fn lane_of(lanes: &[u16; Transaction::TABLE], tx: u16) -> u16 {
-    if Transaction::LIMIT < tx {
-        return 0;
-    }
-    lanes[tx as usize]
-}
-
-// Opens a lane: its number, and a line from its begin to its end, which is dashed and grey where the transaction has done nothing.
-fn open_lane(
-    rt: &impl Print,
-    page: Page,
-    log: &[u16; NUMBERS],
-    tx: u16,
-    lane: u16,
-) -> io::Result<()> {
-    let y = down(page, lane);
-    let from = across(page, last_of(log, Step::BEGIN, tx, 0, 0));
-    let to = across(page, end_of(log, tx));
-    if aborted(log, tx) {
-        return print_filled(
-            rt,
-            b"<g class='lane gone' transform='translate(0,%)'>\n<text class='number' x='%' dy='.35em'>%</text>\n<path class='run' d='M% 0H%' stroke-dasharray='7 5'/>\n",
-            &[y, number_across(page), tx as u32, from, to],
-        );
-    }
-    print_filled(
-        rt,
-        b"<g class='lane' transform='translate(0,%)'>\n<text class='number' x='%' dy='.35em'>%</text>\n<path class='run' d='M% 0H%'/>\n",
-        &[y, number_across(page), tx as u32, from, to],
-    )
-}
-
-// Prints a lane with the marks of its steps.
-fn print_lane(
-    rt: &impl Print,
-    page: Page,
-    log: &[u16; NUMBERS],
-    tx: u16,
-    lane: u16,
-) -> io::Result<()> {
-    open_lane(rt, page, log, tx, lane)?;
-    for i in 0..MOST {
-        let step = step_at(log, i);
-        if step.tx == tx {
-            print_mark(rt, page, i, step)?;
+// The transactions that have a step, by marks.
+fn mark_all(steps: Steps<'_>) -> [bool; Transaction::TABLE] {
+    let mut marks = [false; Transaction::TABLE];
+    for i in 0..steps.count() {
+        if let Some(step) = steps.at(i)
+            && let Some(mark) = marks.get_mut(usize::from(step.tx))
+        {
+            *mark = true;
         }
     }
-    rt.write_all(b"</g>\n")
+    marks
 }
 
-// Prints the lanes.
-pub(crate) fn print_lanes(
-    rt: &impl Print,
-    page: Page,
-    log: &[u16; NUMBERS],
-    lanes: &[u16; Transaction::TABLE],
-) -> io::Result<()> {
-    for tx in 1..=Transaction::LIMIT {
-        let lane = lane_of(lanes, tx);
-        if 0 < lane {
-            print_lane(rt, page, log, tx, lane)?;
+impl Lanes {
+    // A lane for each transaction that has a step.
+    pub(crate) fn new(steps: Steps<'_>) -> Lanes {
+        let marks = mark_all(steps);
+        let mut of = [None; Transaction::TABLE];
+        let mut count = 0;
+        for tx in 1..Transaction::TABLE {
+            if marks[tx] {
+                count += 1;
+                of[tx] = Some(count);
+            }
         }
+        Lanes { of, count }
     }
-    Ok(())
+
+    // The lane of a transaction.
+    pub(crate) fn lane_of(&self, tx: u16) -> Option<u16> {
+        self.of.get(usize::from(tx)).copied().flatten()
+    }
+}
+
+impl Drawing<'_> {
+    // Opens a lane: its number, and a line from its begin to its end, which is dashed and grey where the transaction has done nothing.
+    fn open_lane(&self, rt: &impl Print, tx: u16, lane: u16) -> io::Result<()> {
+        let y = self.page.down(lane);
+        let x = self.page.number_across();
+        let from = self.across(self.steps.last_of(Step::BEGIN, tx, 0, 0));
+        let to = self.across(self.steps.end_of(tx));
+        if self.steps.abort_of(tx).is_some() {
+            return print!(rt;
+                "<g class='lane gone' transform='translate(0,{y})'>\n<text class='number' x='{x}' dy='.35em'>{tx}</text>\n<path class='run' d='M{from} 0H{to}' stroke-dasharray='7 5'/>\n"
+            );
+        }
+        print!(rt;
+            "<g class='lane' transform='translate(0,{y})'>\n<text class='number' x='{x}' dy='.35em'>{tx}</text>\n<path class='run' d='M{from} 0H{to}'/>\n"
+        )
+    }
+
+    // Prints a lane with the marks of its steps.
+    fn print_lane(&self, rt: &impl Print, tx: u16, lane: u16) -> io::Result<()> {
+        self.open_lane(rt, tx, lane)?;
+        for i in 0..self.page.steps {
+            if let Some(step) = self.steps.at(i)
+                && step.tx == tx
+            {
+                self.page.print_mark(rt, i, step)?;
+            }
+        }
+        rt.write_all(b"</g>\n")
+    }
+
+    // Prints the lanes.
+    pub(crate) fn print_lanes(&self, rt: &impl Print) -> io::Result<()> {
+        for tx in 1..=Transaction::LIMIT {
+            if let Some(lane) = self.lanes.lane_of(tx) {
+                self.print_lane(rt, tx, lane)?;
+            }
+        }
+        Ok(())
+    }
 }

@@ -1,87 +1,62 @@
 // The steps of a log, as the picture asks for them.
 use verdict::{Log, Step};
 
-// How many numbers a log may have, four a step.
-pub(crate) const NUMBERS: usize = 4 * Log::LIMIT;
-
-// How many steps a log may have. It stands for "no step", too.
-pub(crate) const MOST: u16 = Log::LIMIT as u16;
-
-// Step i of a log. Beyond the limit there is a step of no kind.
-pub(crate) fn step_at(log: &[u16; NUMBERS], i: u16) -> Step {
-    if MOST <= i {
-        return Step {
-            kind: 0,
-            tx: 0,
-            obj: 0,
-            src: 0,
-        };
-    }
-    let a = 4 * i as usize;
-    Step {
-        kind: log[a],
-        tx: log[a + 1],
-        obj: log[a + 2],
-        src: log[a + 3],
-    }
+// A number of steps or members, which are no more than a log may have steps.
+pub(crate) fn small(n: usize) -> u16 {
+    n.min(Log::LIMIT) as u16
 }
 
-// Whether two steps are the same.
-fn same(a: Step, b: Step) -> bool {
-    if a.kind != b.kind {
-        return false;
-    }
-    if a.tx != b.tx {
-        return false;
-    }
-    if a.obj != b.obj {
-        return false;
-    }
-    a.src == b.src
+// The steps of a log.
+#[derive(Clone, Copy)]
+pub(crate) struct Steps<'a> {
+    pub(crate) log: &'a [u16],
 }
 
-// Where a step stands in a log, the last time; MOST where it does not.
-pub(crate) fn last_such(log: &[u16; NUMBERS], step: Step) -> u16 {
-    let mut found = MOST;
-    for i in 0..MOST {
-        if same(step_at(log, i), step) {
-            found = i;
+impl Steps<'_> {
+    // How many they are.
+    pub(crate) fn count(self) -> u16 {
+        small(self.log.len() / 4)
+    }
+
+    // Step i.
+    pub(crate) fn at(self, i: u16) -> Option<Step> {
+        let a = 4 * usize::from(i);
+        match self.log.get(a..a + 4) {
+            Some([kind, tx, obj, src]) => Some(Step {
+                kind: *kind,
+                tx: *tx,
+                obj: *obj,
+                src: *src,
+            }),
+            _ => None,
         }
     }
-    found
-}
 
-// Where a transaction does something to an object, the last time.
-pub(crate) fn last_of(log: &[u16; NUMBERS], kind: u16, tx: u16, obj: u16, src: u16) -> u16 {
-    last_such(log, Step { kind, tx, obj, src })
-}
-
-// Whether a transaction ends by an abort.
-pub(crate) fn aborted(log: &[u16; NUMBERS], tx: u16) -> bool {
-    last_of(log, Step::ABORT, tx, 0, 0) < MOST
-}
-
-// Where a transaction ends.
-pub(crate) fn end_of(log: &[u16; NUMBERS], tx: u16) -> u16 {
-    if aborted(log, tx) {
-        return last_of(log, Step::ABORT, tx, 0, 0);
+    // Where a transaction does something to an object, the last time.
+    pub(crate) fn last_of(self, kind: u16, tx: u16, obj: u16, src: u16) -> Option<u16> {
+        let step = Step { kind, tx, obj, src };
+        (0..self.count()).rev().find(|i| self.at(*i) == Some(step))
     }
-    last_of(log, Step::COMMIT, tx, 0, 0)
-}
 
-// The writer of an object's version that a transaction has replaced by its own: who committed last before it, of those that write the object.
-pub(crate) fn version_before(log: &[u16; NUMBERS], obj: u16, tx: u16) -> u16 {
-    let mut writer = 0;
-    for i in 0..MOST {
-        let step = step_at(log, i);
-        if step.kind == Step::COMMIT {
-            if step.tx == tx {
-                return writer;
-            }
-            if last_of(log, Step::WRITE, step.tx, obj, 0) < MOST {
-                writer = step.tx;
-            }
-        }
+    // Where a transaction ends by an abort.
+    pub(crate) fn abort_of(self, tx: u16) -> Option<u16> {
+        self.last_of(Step::ABORT, tx, 0, 0)
     }
-    writer
+
+    // Where a transaction ends.
+    pub(crate) fn end_of(self, tx: u16) -> Option<u16> {
+        self.abort_of(tx)
+            .or_else(|| self.last_of(Step::COMMIT, tx, 0, 0))
+    }
+
+    // The writer of an object's version that a transaction has replaced by its own: who committed last before it, of those that write the object.
+    pub(crate) fn version_before(self, obj: u16, tx: u16) -> u16 {
+        (0..self.count())
+            .filter_map(|i| self.at(i))
+            .filter(|step| step.kind == Step::COMMIT)
+            .take_while(|step| step.tx != tx)
+            .filter(|step| self.last_of(Step::WRITE, step.tx, obj, 0).is_some())
+            .last()
+            .map_or(0, |step| step.tx)
+    }
 }

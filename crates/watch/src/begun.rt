@@ -6,54 +6,49 @@ ghost use Rattle.watch.specs.Begun.{Keeps};
 use text::{OneLine, Text, read_line};
 
 // The bytes of a line so far, how many they are, and whether it is the first line. One more than the longest line has stands for any more.
-#[derive(Clone, Copy)]
+#[derive(Drop)]
 pub(crate) struct Begun {
-    pub bytes: [u8; Text::LINE],
-    pub count: usize,
-    pub first: bool,
+    bytes: [u8; Text::LINE],
+    count: usize,
+    pub(crate) first: bool,
 }
 
-// A line of which nothing has come.
-pub(crate) fn no_byte(first: bool) -> Begun
-    ensures { Keeps [] result.bytes result.count }
-{
-    Begun {
-        bytes: [0u8; Text::LINE],
-        count: 0,
-        first,
-    }
-}
-
-// The line with one byte more.
-pub(crate) fn with_byte(line: Begun, byte: u8) -> Begun
-    ensures { (came : List ℕ) → Keeps came line.bytes line.count → Keeps (came ++ byte ∷ []) result.bytes result.count }
-{
-    let mut bytes = line.bytes;
-    let n = line.count;
-    let first = line.first;
-    if Text::LINE <= n {
-        return Begun {
-            bytes,
-            count: Text::LINE + 1,
+impl Begun {
+    // A line of which nothing has come.
+    pub(crate) fn new(first: bool) -> Begun
+        ensures { Keeps [] result.bytes result.count }
+    {
+        Begun {
+            bytes: [0u8; Text::LINE],
+            count: 0,
             first,
-        };
+        }
     }
-    bytes[n] = byte;
-    Begun {
-        bytes,
-        count: n + 1,
-        first,
-    }
-}
 
-// What the line says, its line end with it.
-pub(crate) fn said(line: Begun) -> OneLine
-    ensures { (came : List ℕ) → Keeps came line.bytes line.count → SaysLine came result }
-{
-    let bytes = line.bytes;
-    let n = line.count;
-    if Text::LINE < n {
-        return OneLine::Other;
+    // Whether nothing has come of it.
+    pub(crate) fn is_empty(&self) -> bool {
+        self.count == 0
     }
-    read_line(&bytes[..n])
+
+    // Takes a byte more.
+    pub(crate) fn push(&mut self, byte: u8)
+        ensures { (came : List ℕ) → Keeps came self.old.bytes self.old.count → Keeps (came ++ byte ∷ []) self.new.bytes self.new.count }
+    {
+        if Text::LINE <= self.count {
+            self.count = Text::LINE + 1;
+            return;
+        }
+        self.bytes[self.count] = byte;
+        self.count += 1;
+    }
+
+    // What the line says, its line end with it.
+    pub(crate) fn said(&self) -> OneLine
+        ensures { (came : List ℕ) → Keeps came self.now.bytes self.now.count → SaysLine came result }
+    {
+        if Text::LINE < self.count {
+            return OneLine::Other;
+        }
+        read_line(&self.bytes[..self.count])
+    }
 }

@@ -1,17 +1,10 @@
--- The steps that were read are within their buffer.
+-- `print_orders` is safe: an order that is shown is within the witness.
 use borrow.Author.Rules.{rules}
-use native.Mathlib.Omega.{arith}
-use mathlib.Core.Path.{sym}
-use lib.Seq.{length-take-le}
-use Rattle.text.proofs.WasRead.{steps_within_buffer}
+use Rattle.verdict.specs.Refusal.{log_refusal}
+use Rattle.orders.proofs.Bringing.{members_within, few_members}
 use Rattle.orders.proofs.print_orders.Goals as goal
 
-pub overflow_mul-end : goal.overflow_mul-end
-overflow_mul-end g c = omega (arith, (steps_within_buffer c.in-Accepted.is (search rules) c.read-answer.ensures).0)
-
-pub slice_bounds-steps-end : goal.slice_bounds-steps-end
-slice_bounds-steps-end g c = (steps_within_buffer c.in-Accepted.is (search rules) c.read-answer.ensures).1
-
-pub slice_bounds-print_listing-end : goal.slice_bounds-print_listing-end
-slice_bounds-print_listing-end g c =
-    sym (length-take-le _ _ (steps_within_buffer c.in-Accepted.is (search rules) c.read-answer.ensures).1)
+pub print_order-requires : goal.print_order-requires
+print_order-requires g c =
+    let within = members_within (log_refusal c.args.log.now) c.in-Judged-Order.is c.in-Judged-Order.field-0-is c.version.ensures in
+    (few_members c.in-Judged-Order.n c.version.new.witness within (search rules), within)

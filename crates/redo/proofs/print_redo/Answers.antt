@@ -1,17 +1,12 @@
--- The steps that were read are within their buffer.
-use borrow.Author.Rules.{rules}
-use native.Mathlib.Omega.{arith}
+-- The members of the proposal are within it.
 use mathlib.Core.Path.{sym}
 use lib.Seq.{length-take-le}
-use Rattle.text.proofs.WasRead.{steps_within_buffer}
+use Rattle.redo.proofs.Members.{members_within}
 use Rattle.redo.proofs.print_redo.Goals as goal
 
-pub overflow_mul-end : goal.overflow_mul-end
-overflow_mul-end g c = omega (arith, (steps_within_buffer c.in-Accepted.is (search rules) c.read-answer.ensures).0)
+pub slice_bounds-members-end : goal.slice_bounds-members-end
+slice_bounds-members-end g c = members_within c.args.log.now c.in-Proposed.is c.redo.ensures
 
-pub slice_bounds-steps-end : goal.slice_bounds-steps-end
-slice_bounds-steps-end g c = (steps_within_buffer c.in-Accepted.is (search rules) c.read-answer.ensures).1
-
-pub slice_bounds-print_plan-end : goal.slice_bounds-print_plan-end
-slice_bounds-print_plan-end g c =
-    sym (length-take-le _ _ (steps_within_buffer c.in-Accepted.is (search rules) c.read-answer.ensures).1)
+pub slice_bounds-print_numbers-end-in-Proposed : goal.slice_bounds-print_numbers-end-in-Proposed
+slice_bounds-print_numbers-end-in-Proposed g c =
+    sym (length-take-le _ _ (members_within c.args.log.now c.in-Proposed.is c.redo.ensures))
