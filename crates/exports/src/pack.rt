@@ -6,7 +6,7 @@ ghost use Rattle.exports.specs.Inner.Small.{Small};
 use plan::Acceptance;
 use verdict::answers::{Answer, Cleanness, Fault, Refusal, Snapshot, Writer};
 
-// The kinds of answer.
+// The kinds of answer, as the C header numbers them.
 const REFUSED: u64 = 0;
 
 const ORDER: u64 = 1;

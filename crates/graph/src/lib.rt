@@ -27,7 +27,7 @@ pub const WORDS: usize = 2;
 
 pub const ROWS: usize = VERTICES * WORDS;
 
-// The members of a list, with zeros behind them, and how many they are.
+// The members of a list, with zeros behind them, and how many they are: memory is fixed, so the list has room for all.
 #[derive(Drop, Clone, Copy)]
 pub struct Members {
     pub list: [u16; VERTICES],

@@ -17,8 +17,8 @@ use crate::table::{DONE, PLACES, STATUS, UNTIL, WIDTH, WRONG, status, writes};
 use bits::{any_mark, minus};
 use graph::{WORDS, reaches};
 
-// The small part of the state: the answer that stands, 0 where none does; the highest number begun; and how many places there are to look at,
-// since all behind them are free.
+// The small part of the state, as its lent buffer has it: the answer that stands, 0 where none does; the highest number begun; and how many places there are
+// to look at, since all behind them are free.
 #[derive(Clone, Copy)]
 pub(crate) struct Live {
     pub standing: u16,

@@ -1,5 +1,5 @@
 // How the lent buffers keep the rows of the transactions: a row for each place, and row 0 for one that begins now. A free place has number 0. Of row 0,
-// the first number and the last are for who holds all that are kept (holder.rt).
+// the first number and the last are for who holds all that are kept (holder.rt). They are plain numbers, since the C interface lends them.
 ghost use Rattle.std.specs.Prelude.{◌≡◌, ◌≤◌, ◌<◌, length};
 ghost use Rattle.live.specs.Inner.Table.{row_numbers, mark_words, name_at, status_at, sees_at, until_at, writes_at, reads_at};
 

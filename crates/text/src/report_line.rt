@@ -70,7 +70,7 @@ pub(crate) fn put_snapshot(out: &mut [u8], at: usize, snapshot: Snapshot) -> usi
     }
 }
 
-// Puts the reason behind a member of a cycle. A member of an order has none.
+// Puts the reason behind a member of a cycle, by the numbers that a witness has for its kind. A member of an order has none.
 fn put_reason(out: &mut [u8], at: usize, kind: u16, x: u16) -> usize
     requires { Fits (reason kind x) at out.old }
     ensures { Puts (reason kind x) at out.old result out.new }

@@ -12,7 +12,7 @@ pub const WR: u16 = 2;
 
 pub const RW: u16 = 3;
 
-// More than the number of any reason.
+// More than the number of any reason, so that whatever is offered first is lower.
 pub(crate) const NO_REASON: u16 = 256;
 
 // Who stands before each member of a cycle; 0 for all others.

@@ -193,7 +193,7 @@ fn note_last(
 }
 
 // Whether there is an order of the n on the list that explains loosely and begins with what is placed. The first is put into the lent array, which says
-// nothing where there is none.
+// nothing where there is none: an array that the call answered would be copied at each step back.
 fn place(
     log: &[u16],
     need: &[u16; Transaction::PAIRS],

@@ -179,7 +179,7 @@ struct Clash {
     partner: u16,
 }
 
-// The first clash over commits, partners and objects before step k. Partners are tried where an object
+// The first clash over commits, partners and objects before step k: the nested search that 01 leaves by a label. Partners are tried where an object
 // was written by one who committed since the transaction began, and objects where the partner overlaps and shares a mark.
 fn first_clash(
     log: &[u16],

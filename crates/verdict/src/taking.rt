@@ -219,8 +219,8 @@ fn take_last(
     take_end(log, i, lives)
 }
 
-// Step i, by what is noted of the steps before it: the refusal that applies, or whether it is a read that missed its own write. Two arms take two kinds each: with an arm for each kind the match becomes one jump through a table, which a
-// processor guesses worse than comparisons where kinds follow no rule.
+// Step i, by what is noted of the steps before it: the refusal that applies, or whether it is a read that missed its own write. Two arms take two kinds each:
+// with an arm for each kind the match becomes one jump through a table, which a processor guesses worse than comparisons where kinds follow no rule.
 pub(crate) fn take_step(
     log: &[u16],
     i: usize,
