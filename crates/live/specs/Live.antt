@@ -16,8 +16,10 @@ all_zero = record { state = zeros state_numbers; opened = zeros opened_entries; 
 -- calls one after another, the first with fresh buffers: the steps of the parts that were accepted, their answers, and the buffers after all
 pub data Calls : (run said : List ℕ) → Buffers → Type 0 where
   no_call : Calls [] [] all_zero
-  one_accepted : {run said part answers answers' : List ℕ} {lent left : Buffers} → Calls run said lent → LiveCall lent part answers (Ok tt) left answers' → Calls (run ++ part) (said ++ answers') left
-  one_refused : {run said part answers answers' : List ℕ} {refusal : Refusal} {lent left : Buffers} → Calls run said lent → LiveCall lent part answers (Err refusal) left answers' → Calls run said left
+  one_accepted : {run said part answers answers' : List ℕ} {lent left : Buffers} → Calls run said lent
+      → LiveCall lent part answers (Ok tt) left answers' → Calls (run ++ part) (said ++ answers') left
+  one_refused : {run said part answers answers' : List ℕ} {refusal : Refusal} {lent left : Buffers} → Calls run said lent
+      → LiveCall lent part answers (Err refusal) left answers' → Calls run said left
 
 -- the answers to a run of steps
 unfoldable pub answers_to : List ℕ → List ℕ

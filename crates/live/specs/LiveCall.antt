@@ -47,5 +47,7 @@ pub record Judges (lent : Buffers) (part : List ℕ) (left : Buffers) (answers :
 
 -- A call: turned away, and nothing is changed; or answered
 pub data LiveCall (lent : Buffers) (part answers : List ℕ) (r : Result (Unit {0}) Refusal) (left : Buffers) (answers' : List ℕ) : Type 0 where
-  turned_away : (number place : ℕ) → Refused number place ≡ call_refusal lent part answers → r ≡ Refused number place → left ≡ lent → answers' ≡ answers → LiveCall lent part answers r left answers'
-  answered : Passed ≡ call_refusal lent part answers → r ≡ Ok tt → Judges lent part left answers' → LiveCall lent part answers r left answers'
+  turned_away : (number place : ℕ) → Refused number place ≡ call_refusal lent part answers → r ≡ Refused number place → left ≡ lent
+      → answers' ≡ answers → LiveCall lent part answers r left answers'
+  answered : Passed ≡ call_refusal lent part answers → r ≡ Ok tt → Judges lent part left answers'
+      → LiveCall lent part answers r left answers'

@@ -29,6 +29,7 @@ pub data Reading (bytes : List ℕ) : Checked → Type 0 where
   bad_line : (n i : ℕ) (log rest : List ℕ) → n ≤ most_steps → i < n → Steps i log → bytes ≡ header n ++ lines i log ++ rest → NoLine rest
       → Reading bytes (Refused 16 (suc i))
   -- all lines are in form, and something stands behind them
-  extra : (n b : ℕ) (log rest : List ℕ) → n ≤ most_steps → Steps n log → bytes ≡ header n ++ lines n log ++ b ∷ rest → Reading bytes (Refused 16 (suc n))
+  extra : (n b : ℕ) (log rest : List ℕ) → n ≤ most_steps → Steps n log → bytes ≡ header n ++ lines n log ++ b ∷ rest
+      → Reading bytes (Refused 16 (suc n))
   -- a whole text
   in_form : (log : List ℕ) → Says bytes log → Reading bytes Passed

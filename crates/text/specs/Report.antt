@@ -40,7 +40,8 @@ pub data LogReport (log : List ℕ) : List ℕ → Type 0 where
   -- a number turns it away
   log_refused : (number place : ℕ) → log_refusal log ≡ Refused number place → LogReport log (refused_line number place)
   -- a well_formed log
-  judged : {conflict version exact : List ℕ} → log_refusal log ≡ Passed → ConflictLine log conflict → VersionLine log version → ExactLine log exact
+  judged : {conflict version exact : List ℕ} → log_refusal log ≡ Passed → ConflictLine log conflict → VersionLine log version
+      → ExactLine log exact
       → LogReport log (first_lines log ++ conflict ++ version ++ exact)
 
 -- the report of a text
@@ -48,6 +49,7 @@ pub data ReportOf (text : List ℕ) : List ℕ → Type 0 where
   -- the text is too long
   text_too_long : most_bytes < length text → ReportOf text (refused_line 15 0)
   -- a line departs from the text form, or the header says too many steps
-  text_refused : (number place : ℕ) → length text ≤ most_bytes → Reading text (Refused number place) → ReportOf text (refused_line number place)
+  text_refused : (number place : ℕ) → length text ≤ most_bytes → Reading text (Refused number place)
+      → ReportOf text (refused_line number place)
   -- the text says a log
   text_read : (log : List ℕ) {w : List ℕ} → length text ≤ most_bytes → Says text log → LogReport log w → ReportOf text w

@@ -7,10 +7,12 @@ use Rattle.verdict.specs.Answers.{Fault, Answer, Order, Cycle, None}
 
 -- an order that `version` shows, and one that `next` brings after v: it is read off the witness
 pub data VersionOrder (log : List ℕ) : List ℕ → Type 0 where
-  version_order : {work witness work' witness' : List ℕ} {n : ℕ} → VersionCall log work witness (Ok (Order n)) work' witness' → VersionOrder log (read_off n witness')
+  version_order : {work witness work' witness' : List ℕ} {n : ℕ} → VersionCall log work witness (Ok (Order n)) work' witness'
+      → VersionOrder log (read_off n witness')
 
 pub data NextOrder (log v : List ℕ) : List ℕ → Type 0 where
-  next_order : {work witness work' witness' : List ℕ} {n : ℕ} → NextCall log (handed v) work witness (Ok (Order n)) work' witness' → NextOrder log v (read_off n witness')
+  next_order : {work witness work' witness' : List ℕ} {n : ℕ} → NextCall log (handed v) work witness (Ok (Order n)) work' witness'
+      → NextOrder log v (read_off n witness')
 
 -- what asking after v brings
 pub data Asked (log : List ℕ) : List ℕ → List (List ℕ) → Type 0 where
@@ -21,7 +23,8 @@ pub data Asked (log : List ℕ) : List ℕ → List (List ℕ) → Type 0 where
 pub data Listing (log : List ℕ) : List (List ℕ) → Type 0 where
   from_first : {w : List ℕ} {ws : List (List ℕ)} → VersionOrder log w → Asked log w ws → Listing log (w ∷ ws)
   empty_cycle : {work witness work' witness' : List ℕ} {n : ℕ} → VersionCall log work witness (Ok (Cycle n)) work' witness' → Listing log []
-  empty_unclean : {work witness work' witness' : List ℕ} {f : Fault} → VersionCall log work witness (Ok (Answer.Unclean f)) work' witness' → Listing log []
+  empty_unclean : {work witness work' witness' : List ℕ} {f : Fault}
+      → VersionCall log work witness (Ok (Answer.Unclean f)) work' witness' → Listing log []
 
 -- an order that was brought
 pub data Brought (log : List ℕ) : List ℕ → Type 0 where

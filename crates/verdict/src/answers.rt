@@ -1,8 +1,8 @@
 // What the judge answers. Each answer is one type, used by the code and by the statements alike.
 use crate::limits::Transaction;
 
-// A refusal: the number that turns a call away, and its place. The number is that of 01's table, which the C face hands on: names for the numbers would be a
-// second table.
+// A refusal: the number that turns a call away, and its place. The number is that of 01's table, which the C face hands on: names for the
+// numbers would be a second table.
 #[derive(Clone, Copy, PartialEq, Eq)]
 pub struct Refusal(pub u16, pub usize);
 

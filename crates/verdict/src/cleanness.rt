@@ -1,5 +1,5 @@
-// The clean verdict: whether every judged read is from a committed source that writes the object in no later step, and from the reader itself after its own
-// write.
+// The clean verdict: whether every judged read is from a committed source that writes the object in no later step, and from the reader
+// itself after its own write.
 ghost use Rattle.std.specs.Prelude.{◌≡◌, suc, ◌≤◌, ◌+◌, ◌*◌, length};
 ghost use Rattle.words.specs.Tests.{lowest};
 ghost use Rattle.verdict.specs.Log.{steps};
@@ -50,8 +50,9 @@ fn is_faulty(
     object_marked(later, s, step.obj)
 }
 
-// The lowest step whose source is faulty, or the number of steps where there is none, by who committed: so two such steps are compared as numbers, and none
-// comes behind all. It is the last one found on the way from the last step to the first, where marks say what each transaction writes later.
+// The lowest step whose source is faulty, or the number of steps where there is none, by who committed: so two such steps are compared as
+// numbers, and none comes behind all. It is the last one found on the way from the last step to the first, where marks say what each
+// transaction writes later.
 fn first_fault(log: &[u16], part: &[u64; graph::WORDS]) -> usize
     requires { (log_refusal log.now ≡ Passed) × Committed log.now part.now }
     ensures { result ≡ lowest (steps log.now) (source_fault log.now) }

@@ -13,8 +13,9 @@ use crate::own_reads::own_fault;
 use crate::taking::take_step;
 use crate::walk::EVERY_OBJECT;
 
-// What the check learns of a log that nothing turns away. Of each transaction: the steps at which it begins and commits, or the number of steps; whether it
-// committed; who committed before it, where entry 0 has the last to commit; and the marks of what it writes. And the first own fault, or the number of steps.
+// What the check learns of a log that nothing turns away. Of each transaction: the steps at which it begins and commits, or the number of
+// steps; whether it committed; who committed before it, where entry 0 has the last to commit; and the marks of what it writes. And the
+// first own fault, or the number of steps.
 #[derive(Clone, Copy)]
 pub(crate) struct Examined {
     pub begins: [u16; Transaction::TABLE],

@@ -179,8 +179,8 @@ struct Clash {
     partner: u16,
 }
 
-// The first clash over commits, partners and objects before step k: the nested search that 01 leaves by a label. Partners are tried where an object
-// was written by one who committed since the transaction began, and objects where the partner overlaps and shares a mark.
+// The first clash over commits, partners and objects before step k: the nested search that 01 leaves by a label. Partners are tried where
+// an object was written by one who committed since the transaction began, and objects where the partner overlaps and shares a mark.
 fn first_clash(
     log: &[u16],
     writes: &[u64; Transaction::TABLE],
@@ -225,8 +225,8 @@ fn lower(a: usize, b: usize) -> usize
     b
 }
 
-// The snapshot verdict of a well-formed log, by where each transaction begins and commits, what it writes, the writers of the next versions, and the
-// first own fault.
+// The snapshot verdict of a well-formed log, by where each transaction begins and commits, what it writes, the writers of the next
+// versions, and the first own fault.
 pub(crate) fn judge_snapshot(
     log: &[u16],
     begins: &[u16; Transaction::TABLE],

@@ -22,8 +22,8 @@ fn put_before(table: &mut [u8; Transaction::PAIRS], marks: u64, t: usize)
     }
 }
 
-// Fills a table of zeros, from the last to commit to the first: for the store and each writer of an object, the writer of its next version, or 0 where there is
-// none. No transaction is 0, so a byte says it; an Option would make the table twice as large.
+// Fills a table of zeros, from the last to commit to the first: for the store and each writer of an object, the writer of its next version,
+// or 0 where there is none. No transaction is 0, so a byte says it; an Option would make the table twice as large.
 pub(crate) fn next_writers(
     log: &[u16],
     writes: &[u64; Transaction::TABLE],

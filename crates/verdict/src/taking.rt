@@ -1,4 +1,5 @@
-// Taking one step of a log: the refusal that applies to it, or what is noted of it. Each kind has a way of its own, and is told by comparisons alone.
+// Taking one step of a log: the refusal that applies to it, or what is noted of it. Each kind has a way of its own, and is told by
+// comparisons alone.
 ghost use Rattle.std.specs.Prelude.{◌≡◌, ◌⊎◌, ℕ, suc, ◌≤◌, ◌<◌, ◌+◌, ◌*◌, length};
 ghost use Rattle.verdict.specs.Limits.{transactions, most_steps};
 ghost use Rattle.verdict.specs.Log.{steps, kind, tx, obj, src};
@@ -13,8 +14,8 @@ use crate::own_reads::{misses, note_version};
 use crate::step::{Step, step_at};
 use crate::walk::object_marked;
 
-// What a kind asks of its steps: how many objects there are, from 0 on; the highest source; how far the transaction has come; and the number of a step whose transaction
-// has not.
+// What a kind asks of its steps: how many objects there are, from 0 on; the highest source; how far the transaction has come; and the
+// number of a step whose transaction has not.
 #[derive(Clone, Copy)]
 struct Asked {
     objects: u16,
@@ -128,7 +129,8 @@ fn take_write(
     versions: &mut [u64; Transaction::TABLE],
 ) -> Result<(), Refusal>
     requires { (i < steps log.now) × (kind log.now i ≡ 3) × Lived log.now i lives.now × Versions log.now i versions.old × (length versions.old ≡ suc transactions) }
-    ensures { Checks (step_refusal log.now i) (λ _. Versions log.now (i + 1) versions.new × (length versions.new ≡ suc transactions)) result }
+    ensures { Checks (step_refusal log.now i)
+        (λ _. Versions log.now (i + 1) versions.new × (length versions.new ≡ suc transactions)) result }
 {
     let asked = Asked {
         objects: Object::LIMIT,
@@ -188,7 +190,8 @@ fn take_commit(
     earlier: &mut [u16; Transaction::TABLE],
 ) -> Result<(), Refusal>
     requires { (i < steps log.now) × (steps log.now ≤ most_steps) × (kind log.now i ≡ 4) × Lived log.now i lives.old × InOrder log.now i commits.old part.old earlier.old }
-    ensures { Checks (step_refusal log.now i) (λ _. Lived log.now (i + 1) lives.new × InOrder log.now (i + 1) commits.new part.new earlier.new) result }
+    ensures { Checks (step_refusal log.now i)
+        (λ _. Lived log.now (i + 1) lives.new × InOrder log.now (i + 1) commits.new part.new earlier.new) result }
 {
     take_end(log, i, lives)?;
     let step = step_at(log, i);
@@ -210,7 +213,8 @@ fn take_last(
     earlier: &mut [u16; Transaction::TABLE],
 ) -> Result<(), Refusal>
     requires { (i < steps log.now) × (steps log.now ≤ most_steps) × (4 ≤ kind log.now i) × (kind log.now i ≤ 5) × Lived log.now i lives.old × InOrder log.now i commits.old part.old earlier.old }
-    ensures { Checks (step_refusal log.now i) (λ _. Lived log.now (i + 1) lives.new × InOrder log.now (i + 1) commits.new part.new earlier.new) result }
+    ensures { Checks (step_refusal log.now i)
+        (λ _. Lived log.now (i + 1) lives.new × InOrder log.now (i + 1) commits.new part.new earlier.new) result }
 {
     let step = step_at(log, i);
     if step.kind == Step::COMMIT {
@@ -219,8 +223,9 @@ fn take_last(
     take_end(log, i, lives)
 }
 
-// Step i, by what is noted of the steps before it: the refusal that applies, or whether it is a read that missed its own write. Two arms take two kinds each:
-// with an arm for each kind the match becomes one jump through a table, which a processor guesses worse than comparisons where kinds follow no rule.
+// Step i, by what is noted of the steps before it: the refusal that applies, or whether it is a read that missed its own write. Two arms
+// take two kinds each: with an arm for each kind the match becomes one jump through a table, which a processor guesses worse than
+// comparisons where kinds follow no rule.
 pub(crate) fn take_step(
     log: &[u16],
     i: usize,
