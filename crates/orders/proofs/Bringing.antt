@@ -14,7 +14,8 @@ use Rattle.verdict.specs.Witness.{read_off, handed}
 use Rattle.verdict.specs.Replay.{explains}
 use Rattle.verdict.specs.Next.{Next, next, up_to_zero}
 use Rattle.verdict.specs.Call.{WitnessCall, NextCall}
-use Rattle.verdict.specs.Answers.{Refusal, Checked}
+use Rattle.verdict.specs.Answers.{Checked}
+use Rattle.verdict.specs.declared.answers.Refusal.{Refusal}
 use Rattle.verdict.specs.declared.answers.Answer.{Answer}
 use Rattle.verdict.specs.declared.answers.Answer.TheVariants.{Order}
 use Rattle.verdict.proofs.WellFormed.{else_try→}
