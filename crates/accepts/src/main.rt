@@ -7,9 +7,10 @@ mod named;
 use crate::named::propose;
 use input::{argument, one_log, say};
 use output::{ended, print_refused};
-use plan::{Acceptance, AcceptsAnswer, accepts};
+use plan::{Acceptance, accepts};
 use std::io;
 use std::rt::Runtime;
+use verdict::answers::Refusal;
 use verdict::{Log, Transaction};
 
 // Prints whether a proposal for a log will do.
@@ -20,9 +21,11 @@ fn print_accepts(
 ) -> io::Result<()> {
     let mut work = [0u8; Log::WORK];
     match accepts(log, members, &mut work) {
-        AcceptsAnswer::Refused(number, place) => print_refused(rt, number, place),
-        AcceptsAnswer::Judged(Acceptance::Yes) => rt.write_all(b"yes\n"),
-        AcceptsAnswer::Judged(Acceptance::No) => rt.write_all(b"no\n"),
+        Ok(acceptance) => match acceptance {
+            Acceptance::Yes => rt.write_all(b"yes\n"),
+            Acceptance::No => rt.write_all(b"no\n"),
+        },
+        Err(Refusal(number, place)) => print_refused(rt, number, place),
     }
 }
 

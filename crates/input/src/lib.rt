@@ -13,8 +13,9 @@ use output::print_refused;
 use std::env::FillError;
 use std::rt::{Env, Files, Runtime};
 use std::{fmt, io};
-use text::{Text, TextAnswer, read};
+use text::{Text, read};
 use verdict::Log;
+use verdict::answers::Refusal;
 
 // How many bytes an argument may have: more than a path that can be opened.
 const ARGUMENT: usize = 4096;
@@ -105,8 +106,8 @@ fn print_log<F: Fn(&[u16]) -> io::Result<()>>(
 {
     let mut steps = [0u16; 4 * Log::LIMIT];
     match read(text, &mut steps) {
-        TextAnswer::Refused(number, place) => print_refused(rt, number, place),
-        TextAnswer::Accepted(n) => print(&steps[..4 * n]),
+        Ok(n) => print(&steps[..4 * n]),
+        Err(Refusal(number, place)) => print_refused(rt, number, place),
     }
 }
 

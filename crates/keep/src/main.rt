@@ -14,15 +14,16 @@ use input::{argument, one_log, say};
 use output::{ended, print_refused};
 use std::io;
 use std::rt::Runtime;
-use text::{Text, TextAnswer, write};
+use text::{Text, write};
+use verdict::answers::Refusal;
 use verdict::{Log, Transaction};
 
 // Prints the text of a log.
 fn print_text(rt: &impl Print, log: &[u16]) -> io::Result<()> {
     let mut out = [0u8; Text::WRITTEN];
     match write(log, &mut out) {
-        TextAnswer::Refused(number, place) => print_refused(rt, number, place),
-        TextAnswer::Accepted(n) => rt.write_all(&out[..n]),
+        Ok(n) => rt.write_all(&out[..n]),
+        Err(Refusal(number, place)) => print_refused(rt, number, place),
     }
 }
 

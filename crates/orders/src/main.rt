@@ -11,7 +11,7 @@ ghost use Rattle.verdict.proofs.Listing.{to_come};
 use input::each_log;
 use output::{ended, print_numbers, print_refused};
 use std::io;
-use verdict::answers::{Answer, WitnessAnswer};
+use verdict::answers::{Answer, Refusal};
 use verdict::{Log, Transaction, next, version};
 
 // The order in the first n entries of a witness, as "next" takes it.
@@ -48,8 +48,11 @@ fn bring(
         to_come log.now (up_to_zero order) < to_come log.now (up_to_zero given))) }
 {
     let mut witness = [0u16; Transaction::WITNESS];
-    match next(log, &given, work, &mut witness) {
-        WitnessAnswer::Judged(Answer::Order(n)) => Ok(Some(print_order(rt, &witness, n)?)),
+    let Ok(judged) = next(log, &given, work, &mut witness) else {
+        return Ok(None);
+    };
+    match judged {
+        Answer::Order(n) => Ok(Some(print_order(rt, &witness, n)?)),
         _ => Ok(None),
     }
 }
@@ -72,13 +75,13 @@ fn print_later(
 fn print_orders(rt: &impl Print, log: &[u16]) -> io::Result<()> {
     let mut work = [0u8; Log::WORK];
     let mut witness = [0u16; Transaction::WITNESS];
-    match version(log, &mut work, &mut witness) {
-        WitnessAnswer::Refused(number, place) => return print_refused(rt, number, place),
-        WitnessAnswer::Judged(Answer::Order(n)) => {
-            let first = print_order(rt, &witness, n)?;
-            print_later(rt, log, first, &mut work)?;
-        }
-        WitnessAnswer::Judged(_) => {}
+    let judged = match version(log, &mut work, &mut witness) {
+        Ok(judged) => judged,
+        Err(Refusal(number, place)) => return print_refused(rt, number, place),
+    };
+    if let Answer::Order(n) = judged {
+        let first = print_order(rt, &witness, n)?;
+        print_later(rt, log, first, &mut work)?;
     }
     rt.write_all(b"none\n")
 }

@@ -17,7 +17,7 @@ use crate::steps::{Steps, small};
 use input::one_log;
 use output::{ended, print_refused};
 use std::io;
-use verdict::answers::{Answer, WitnessAnswer};
+use verdict::answers::{Answer, Refusal};
 use verdict::{Log, Transaction, fault_step, version};
 
 // What an answer shows. One that has neither an order nor a cycle shows an order of nobody.
@@ -35,10 +35,8 @@ fn print_picture(rt: &impl Print, log: &[u16]) -> io::Result<()> {
     let mut work = [0u8; Log::WORK];
     let mut witness = [0u16; Transaction::WITNESS];
     match version(log, &mut work, &mut witness) {
-        WitnessAnswer::Refused(number, place) => print_refused(rt, number, place),
-        WitnessAnswer::Judged(judged) => {
-            Drawing::new(Steps { log }, shown(judged), &witness).print(rt)
-        }
+        Ok(judged) => Drawing::new(Steps { log }, shown(judged), &witness).print(rt),
+        Err(Refusal(number, place)) => print_refused(rt, number, place),
     }
 }
 

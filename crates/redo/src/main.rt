@@ -4,8 +4,9 @@
 
 use input::each_log;
 use output::{ended, print_numbers, print_refused};
-use plan::{RedoAnswer, redo};
+use plan::redo;
 use std::io;
+use verdict::answers::Refusal;
 use verdict::{Log, Transaction};
 
 // Prints which commits of a log are to be taken back.
@@ -13,8 +14,8 @@ fn print_redo(rt: &impl Print, log: &[u16]) -> io::Result<()> {
     let mut work = [0u8; Log::WORK];
     let mut members = [0u16; Transaction::COUNT];
     match redo(log, &mut work, &mut members) {
-        RedoAnswer::Refused(number, place) => print_refused(rt, number, place),
-        RedoAnswer::Proposed(n) => print_numbers(rt, "redo", &members[..n]),
+        Ok(n) => print_numbers(rt, "redo", &members[..n]),
+        Err(Refusal(number, place)) => print_refused(rt, number, place),
     }
 }
 

@@ -4,12 +4,12 @@
 use input::each_text;
 use output::ended;
 use std::io;
-use text::{Text, TextAnswer, report};
+use text::{Text, report};
 
 // Prints the report of a text.
 fn print_report(rt: &impl Print, text: &[u8]) -> io::Result<()> {
     let mut out = [0u8; Text::REPORT];
-    if let TextAnswer::Accepted(n) = report(text, &mut out) {
+    if let Ok(n) = report(text, &mut out) {
         rt.write_all(&out[..n])?;
     }
     Ok(())

@@ -1,8 +1,9 @@
 // The answer to a line: what the live judge says of its step, or 16 where it is not in form.
 use crate::begun::Begun;
-use live::{BREACH, CLOSED, EDGES, LiveAnswer, MARKS, OPENED, ROWS, STATE, TAKEN, YES, live};
+use live::{BREACH, CLOSED, EDGES, MARKS, OPENED, ROWS, STATE, TAKEN, YES, live};
 use std::io;
 use text::OneLine;
+use verdict::answers::Refusal;
 
 // The number of a line that is not in form.
 pub(crate) const FORMLESS: u16 = 16;
@@ -58,8 +59,8 @@ impl Judge {
             &mut answers,
         );
         match told {
-            LiveAnswer::Refused(number) => print_refused(rt, number),
-            LiveAnswer::Accepted => print_said(rt, answers[0]),
+            Ok(()) => print_said(rt, answers[0]),
+            Err(Refusal(number, _)) => print_refused(rt, number),
         }
     }
 

@@ -6,5 +6,5 @@ use Rattle.orders.proofs.print_orders.Goals as goal
 
 pub print_order-requires : goal.print_order-requires
 print_order-requires g c =
-    let within = members_within (log_refusal c.args.log.now) c.in-Judged-Order.is c.in-Judged-Order.field-0-is c.version.ensures in
-    (few_members c.in-Judged-Order.n c.version.new.witness within (search rules), within)
+    let within = members_within (log_refusal c.args.log.now) c.in-Ok.is c.in-Order.is c.version.ensures in
+    (few_members c.in-Order.n c.version.new.witness within (search rules), within)

@@ -5,8 +5,8 @@ use Rattle.redo.proofs.Members.{members_within}
 use Rattle.redo.proofs.print_redo.Goals as goal
 
 pub slice_bounds-members-end : goal.slice_bounds-members-end
-slice_bounds-members-end g c = members_within c.args.log.now c.in-Proposed.is c.redo.ensures
+slice_bounds-members-end g c = members_within c.args.log.now c.in-Ok.is c.redo.ensures
 
-pub slice_bounds-print_numbers-end-in-Proposed : goal.slice_bounds-print_numbers-end-in-Proposed
-slice_bounds-print_numbers-end-in-Proposed g c =
-    sym (length-take-le _ _ (members_within c.args.log.now c.in-Proposed.is c.redo.ensures))
+pub slice_bounds-print_numbers-end-in-Ok : goal.slice_bounds-print_numbers-end-in-Ok
+slice_bounds-print_numbers-end-in-Ok g c =
+    sym (length-take-le _ _ (members_within c.args.log.now c.in-Ok.is c.redo.ensures))

@@ -6,7 +6,7 @@ use Rattle.report.proofs.Reports.{report_within_buffer}
 use Rattle.report.proofs.print_report.Goals as goal
 
 pub slice_bounds-out-end : goal.slice_bounds-out-end
-slice_bounds-out-end g c = report_within_buffer c.in-Accepted.is (search rules) c.report.ensures
+slice_bounds-out-end g c = report_within_buffer c.in-Ok.is (search rules) c.report.ensures
 
 pub slice_bounds-write_all-end : goal.slice_bounds-write_all-end
-slice_bounds-write_all-end g c = sym (length-take-le _ _ (report_within_buffer c.in-Accepted.is (search rules) c.report.ensures))
+slice_bounds-write_all-end g c = sym (length-take-le _ _ (report_within_buffer c.in-Ok.is (search rules) c.report.ensures))
