@@ -16,6 +16,7 @@ use crate::room::{free_row, give_back};
 use crate::table::{DONE, PLACES, STATUS, UNTIL, WIDTH, WRONG, status, writes};
 use bits::{any_mark, minus};
 use graph::{WORDS, reaches};
+use verdict::Step;
 
 // The small part of the state: the answer that stands, 0 where none does; the highest number begun; and how many places there are to look at,
 // since all behind them are free.
@@ -38,7 +39,7 @@ fn objects_of(k: u16) -> u16
     ensures { result ≡ (provided k is 2 or k is 3 then 64 else 1) }
 {
     match k {
-        2 | 3 => 64,
+        Step::READ | Step::WRITE => 64,
         _ => 1,
     }
 }
@@ -47,10 +48,10 @@ fn objects_of(k: u16) -> u16
 fn range_number(k: u16, t: u16, x: u16, s: u16) -> Option<u16>
     ensures { FirstApplies k t x s result }
 {
-    if k < 1 {
+    if k < Step::BEGIN {
         return Some(3);
     }
-    if 5 < k {
+    if Step::ABORT < k {
         return Some(3);
     }
     if t < 1 {
@@ -62,7 +63,7 @@ fn range_number(k: u16, t: u16, x: u16, s: u16) -> Option<u16>
     if s == 0 {
         return None;
     }
-    if k == 2 {
+    if k == Step::READ {
         return None;
     }
     Some(6)
@@ -79,16 +80,6 @@ fn breaches(rows: &[u16], marks: &[u64], p: usize) -> bool
     let written = writes(marks, p);
     let same = alike(rows, written, 0, p);
     any_mark(minus(written, same))
-}
-
-// The higher of two numbers.
-fn higher(n: usize, p: usize) -> usize
-    ensures { result ≡ (provided n below p then p else n) }
-{
-    if n < p {
-        return p;
-    }
-    n
 }
 
 // Keeps a commit at place p of transaction t: the edges around it, the last writers, and that it is open no more. Until now `top` is the highest number
@@ -144,7 +135,7 @@ impl Live {
         let live = Live {
             standing: self.standing,
             top: t,
-            count: higher(n, p),
+            count: n.max(p),
         };
         Told {
             live,
@@ -243,21 +234,21 @@ impl Live {
         ensures { Took self (table opened.old rows.old marks.old edges.old) k t x s result
             (table opened.new rows.new marks.new edges.new) }
     {
-        if k == 2 {
+        if k == Step::READ {
             note_read(rows, marks, p, t, x as usize, s);
             return Told {
                 live: self,
                 said: Said::Taken,
             };
         }
-        if k == 3 {
+        if k == Step::WRITE {
             note_write(marks, p, x as usize);
             return Told {
                 live: self,
                 said: Said::Taken,
             };
         }
-        if k == 5 {
+        if k == Step::ABORT {
             return self.abort(opened, rows, edges, p);
         }
         self.commit(opened, rows, marks, edges, p, t)
@@ -297,7 +288,7 @@ impl Live {
                 said: Said::Refused(number),
             };
         }
-        if k == 1 {
+        if k == Step::BEGIN {
             return self.begin(opened, rows, marks, t);
         }
         match place_of(opened, self.count, t) {

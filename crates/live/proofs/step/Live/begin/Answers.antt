@@ -1,4 +1,5 @@
 -- `begin` meets its contract.
+use native.Mathlib.Omega.{arith}
 use Rattle.live.proofs.TookBegin.{begin_seven, begin_eighteen, begin_taken}
 use Rattle.live.proofs.step.Live.begin.Goals as goal
 
@@ -13,4 +14,4 @@ returns-then-p-gt-PLACES c =
 pub returns : goal.returns
 returns c =
     let p = c.requires in
-    λ e k x s z q f. begin_taken (record { opened = p.0; rows = p.1; marks = p.2; edges = z }) p.4 p.3 q f c.if-t-self.false c.free_place-p.ensures c.if-p-gt-PLACES.false c.higher.ensures c.give.ensures
+    λ e k x s z q f. begin_taken (record { opened = p.0; rows = p.1; marks = p.2; edges = z }) p.4 p.3 q f c.if-t-self.false c.free_place-p.ensures c.if-p-gt-PLACES.false (omega (arith, c.max.ensures), omega (arith, c.max.ensures), omega (arith, c.max.ensures, c.if-p-gt-PLACES.false, p.4)) c.give.ensures

@@ -23,22 +23,22 @@ begin-requires c =
     let p = c.requires in
     (p.0.opened, p.0.rows, p.0.marks, range_low _ _ _ _ c.in_default.ensures, p.1)
 
-pub returns-then-k-eq1 : goal.returns-then-k-eq1
-returns-then-k-eq1 c =
+pub returns-then-k-eq-BEGIN : goal.returns-then-k-eq-BEGIN
+returns-then-k-eq-BEGIN c =
     let p = c.requires in
-    takes_took c.if-self-eq-BREACH.false c.if-self-eq-CLOSED.false (c.begin.ensures _ _ _ _ p.0.edges c.if-k-eq1.true c.in_default.ensures)
+    takes_took c.if-self-eq-BREACH.false c.if-self-eq-CLOSED.false (c.begin.ensures _ _ _ _ p.0.edges c.if-k-eq-BEGIN.true c.in_default.ensures)
 
 pub returns-in-None : goal.returns-in-None
 returns-in-None c =
     let p = c.requires in
     takes_took c.if-self-eq-BREACH.false c.if-self-eq-CLOSED.false
-    (took_refused 8 (λ z. omega arith) p.0 p.1 (λ log y. number_eight (full numbers places) log _ _ _ _ c.in_default.ensures c.if-k-eq1.false (not_open y.held y.keeping _ c.in-None.ensures)))
+    (took_refused 8 (λ z. omega arith) p.0 p.1 (λ log y. number_eight (full numbers places) log _ _ _ _ c.in_default.ensures c.if-k-eq-BEGIN.false (not_open y.held y.keeping _ c.in-None.ensures)))
 
 pub inside-requires : goal.inside-requires
 inside-requires c =
     let p = c.requires in
     let f = c.in-Some-place_of.ensures in
-    (p.0, range_low _ _ _ _ c.in_default.ensures, p.1, f.0, f.1, c.in_default.ensures, c.if-k-eq1.false)
+    (p.0, range_low _ _ _ _ c.in_default.ensures, p.1, f.0, f.1, c.in_default.ensures, c.if-k-eq-BEGIN.false)
 
 pub returns-in-Some-place_of : goal.returns-in-Some-place_of
 returns-in-Some-place_of c =
