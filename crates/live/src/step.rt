@@ -110,6 +110,13 @@ fn settle(
 }
 
 impl Live {
+    // This state, with an answer.
+    fn told(self, said: Said) -> Told
+        ensures { result ≡ record { live = self; said = said } }
+    {
+        Told { live: self, said }
+    }
+
     // A begin of t that is in range.
     fn begin(self, opened: &mut [u16], rows: &mut [u16], marks: &mut [u64], t: u16) -> Told
         requires { (length opened.old ≡ opened_entries) × (length rows.old ≡ row_numbers) × (length marks.old ≡ mark_words) × (1 ≤ t) × (self.count ≤ places) }
@@ -118,18 +125,12 @@ impl Live {
             (table opened.new rows.new marks.new edges) }
     {
         if t <= self.top {
-            return Told {
-                live: self,
-                said: Said::Refused(7),
-            };
+            return self.told(Said::Refused(7));
         }
         let n = self.count;
         let p = free_place(rows, n);
         if PLACES < p {
-            return Told {
-                live: self,
-                said: Said::Refused(18),
-            };
+            return self.told(Said::Refused(18));
         }
         give(opened, rows, marks, p, t);
         let live = Live {
@@ -137,10 +138,7 @@ impl Live {
             top: t,
             count: n.max(p),
         };
-        Told {
-            live,
-            said: Said::Taken,
-        }
+        live.told(Said::Taken)
     }
 
     // A commit of t at its place p.
@@ -165,10 +163,7 @@ impl Live {
                 top: self.top,
                 count: n,
             };
-            return Told {
-                live,
-                said: Said::Breach,
-            };
+            return live.told(Said::Breach);
         }
         let found = find_around(rows, marks, p, n);
         let before = found.before;
@@ -179,10 +174,7 @@ impl Live {
                 top: self.top,
                 count: n,
             };
-            return Told {
-                live,
-                said: Said::CycleClosed,
-            };
+            return live.told(Said::CycleClosed);
         }
         settle(opened, rows, marks, edges, before, after, p, t, self.top, n);
         let live = Live {
@@ -190,10 +182,7 @@ impl Live {
             top: self.top,
             count: give_back(opened, rows, edges, n),
         };
-        Told {
-            live,
-            said: Said::Yes,
-        }
+        live.told(Said::Yes)
     }
 
     // An abort at place p: its transaction is forgotten at once.
@@ -210,10 +199,7 @@ impl Live {
             top: self.top,
             count: give_back(opened, rows, edges, self.count),
         };
-        Told {
-            live,
-            said: Said::Taken,
-        }
+        live.told(Said::Taken)
     }
 
     // A step in range of the open transaction t at its place p, which is no begin.
@@ -236,17 +222,11 @@ impl Live {
     {
         if k == Step::READ {
             note_read(rows, marks, p, t, x as usize, s);
-            return Told {
-                live: self,
-                said: Said::Taken,
-            };
+            return self.told(Said::Taken);
         }
         if k == Step::WRITE {
             note_write(marks, p, x as usize);
-            return Told {
-                live: self,
-                said: Said::Taken,
-            };
+            return self.told(Said::Taken);
         }
         if k == Step::ABORT {
             return self.abort(opened, rows, edges, p);
@@ -271,31 +251,19 @@ impl Live {
             (table opened.new rows.new marks.new edges.new) }
     {
         if self.standing == BREACH {
-            return Told {
-                live: self,
-                said: Said::Breach,
-            };
+            return self.told(Said::Breach);
         }
         if self.standing == CLOSED {
-            return Told {
-                live: self,
-                said: Said::CycleClosed,
-            };
+            return self.told(Said::CycleClosed);
         }
         if let Some(number) = range_number(k, t, x, s) {
-            return Told {
-                live: self,
-                said: Said::Refused(number),
-            };
+            return self.told(Said::Refused(number));
         }
         if k == Step::BEGIN {
             return self.begin(opened, rows, marks, t);
         }
         match place_of(opened, self.count, t) {
-            None => Told {
-                live: self,
-                said: Said::Refused(8),
-            },
+            None => self.told(Said::Refused(8)),
             Some(p) => self.inside(opened, rows, marks, edges, p, k, t, x, s),
         }
     }

@@ -13,7 +13,7 @@ note_read-requires c =
 pub returns-then-k-eq-READ : goal.returns-then-k-eq-READ
 returns-then-k-eq-READ c =
     let p = c.requires in
-    inside_read p.0 p.1 p.2 p.3 p.4 p.5 p.6 c.if-k-eq-READ.true c.note_read.ensures
+    rw c.told.ensures (inside_read p.0 p.1 p.2 p.3 p.4 p.5 p.6 c.if-k-eq-READ.true c.note_read.ensures)
 
 pub note_write-requires : goal.note_write-requires
 note_write-requires c =
@@ -23,7 +23,7 @@ note_write-requires c =
 pub returns-then-k-eq-WRITE : goal.returns-then-k-eq-WRITE
 returns-then-k-eq-WRITE c =
     let p = c.requires in
-    inside_write p.0 p.1 p.2 p.3 p.4 p.5 p.6 c.if-k-eq-WRITE.true c.note_write.ensures
+    rw c.told-then-k-eq-WRITE.ensures (inside_write p.0 p.1 p.2 p.3 p.4 p.5 p.6 c.if-k-eq-WRITE.true c.note_write.ensures)
 
 pub returns-then-k-eq-ABORT : goal.returns-then-k-eq-ABORT
 returns-then-k-eq-ABORT c =
