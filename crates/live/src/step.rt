@@ -160,8 +160,7 @@ impl Live {
         if breaches(rows, marks, p) {
             let live = Live {
                 standing: BREACH,
-                top: self.top,
-                count: n,
+                ..self
             };
             return live.told(Said::Breach);
         }
@@ -171,16 +170,14 @@ impl Live {
         if reaches(edges, after, before) {
             let live = Live {
                 standing: CLOSED,
-                top: self.top,
-                count: n,
+                ..self
             };
             return live.told(Said::CycleClosed);
         }
         settle(opened, rows, marks, edges, before, after, p, t, self.top, n);
         let live = Live {
-            standing: self.standing,
-            top: self.top,
             count: give_back(opened, rows, edges, n),
+            ..self
         };
         live.told(Said::Yes)
     }
@@ -195,9 +192,8 @@ impl Live {
         opened[p - 1] = 0;
         free_row(rows, p);
         let live = Live {
-            standing: self.standing,
-            top: self.top,
             count: give_back(opened, rows, edges, self.count),
+            ..self
         };
         live.told(Said::Taken)
     }
