@@ -1,15 +1,10 @@
 -- Entries of the rows, of the marks and of the open ones, where they are read and where they are stored.
 use mathlib.Core.Path.{◌≡◌, refl, sym, ap, ◌∙◌}
-use mathlib.Core.Bool.{true, false}
-use mathlib.Core.Logic.{◌⊎◌, inl, inr}
 use mathlib.Core.List.{List}
 use Prim.Native.Nat.{ℕ, ◌+◌, ◌-◌, ◌*◌, ◌≤◌, ◌<◌}
 use native.Mathlib.Omega.{arith}
-use native.Mathlib.Nat.{not-suc-le-zero}
-use lib.ListN.{length, get_or, set, length-set}
+use lib.ListN.{length, get_or, set}
 use lib.Seq.{get_or-set_same, get_or-set_other}
-use Rattle.words.specs.Tests.{◌is◌}
-use Rattle.words.proofs.Truth.{decide, is→, isnt→}
 use Rattle.live.specs.Inner.Table.{cell, name_at, status_at, sees_at, until_at, open_at, writes_at, reads_at}
 
 module _ (rows : List ℕ) where
@@ -85,28 +80,3 @@ module _ (opened : List ℕ) (p v : ℕ) where
   pub open_away : (q : ℕ) → 1 ≤ p → 1 ≤ q → (q ≡ p → ⊥) → open_at (set opened (p - 1) v) q ≡ open_at opened q
   unfolding open_at
   open_away q low l n = get_or-set_other opened (p - 1) (q - 1) v 0 (λ (z : q - 1 ≡ p - 1). n (omega arith))
-
--- a row that takes over what row 0 sees, as far as object x
-pub record Copying (rows : List ℕ) (p x : ℕ) (next : List ℕ) : Type 0 where
-  pub size : length next ≡ length rows
-  pub sees : (y : ℕ) → y < x → sees_at next p y ≡ sees_at rows 0 y
-  pub others : (q c : ℕ) → q ≤ 128 → c < 67 → (q ≡ p → ⊥) → cell next q c ≡ cell rows q c
-
-pub copying_none : (rows : List ℕ) (p : ℕ) → Copying rows p 0 rows
-copying_none rows p = record { size = refl; sees = λ y l. absurd (not-suc-le-zero l); others = λ q c h l n. refl }
-
-pub copying_more : {rows next : List ℕ} {p x i j : ℕ} → Copying rows p x next → length rows ≡ 8643 → 1 ≤ p → p ≤ 128 → x < 64 → i ≡ p * 67 + 2 + x → j ≡ 2 + x → Copying rows p (x + 1) (set next i (get_or next j 0))
-unfolding sees_at cell
-copying_more {rows} {next} {p} {x} {i} {j} c size low high l e f =
-    record {
-      size = length-set next i _ ∙ c.size;
-      sees = λ y m. go y (decide (y is x)) m;
-      others = λ q d h k n. stored_other next p (2 + x) i _ q d (omega arith) (omega arith) k (λ z _. n z) ∙ c.others q d h k n;
-    }
-  where
-    here : get_or next j 0 ≡ cell rows 0 (2 + x)
-    here = ap (λ (k : ℕ). get_or next k 0) f ∙ sees_now next x ∙ c.others 0 (2 + x) (omega arith) (omega arith) (λ (z : 0 ≡ p). omega arith)
-
-    go : (y : ℕ) → ((y is x) ≡ true) ⊎ ((y is x) ≡ false) → y < x + 1 → sees_at (set next i (get_or next j 0)) p y ≡ sees_at rows 0 y
-    go y (inl q) m = let z : y ≡ x = is→ q in rw z (stored_same next p (2 + x) i _ (omega arith) (omega (arith, c.size)) ∙ here)
-    go y (inr q) m = let z : y ≡ x → ⊥ = isnt→ q in stored_other next p (2 + x) i _ p (2 + y) (omega arith) (omega arith) (omega arith) (λ _ (w : 2 + y ≡ 2 + x). z (omega arith)) ∙ c.sees y (omega arith)

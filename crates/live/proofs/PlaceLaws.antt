@@ -10,7 +10,7 @@ use Rattle.words.specs.Tests.{◌is◌}
 use Rattle.words.proofs.Truth.{decide, is→, isnt→}
 use Rattle.live.specs.Inner.Table.{cell, name_at, sees_at, open_at}
 use Rattle.live.specs.Inner.Places.{CopiesRow, Given}
-use Rattle.live.proofs.Cells.{Copying, stored_same, stored_other}
+use Rattle.live.proofs.Cells.{stored_same, stored_other}
 
 pub one_up : {r : ℕ} → (r ≡ 0 → ⊥) → 1 ≤ r
 one_up n = omega arith
@@ -34,9 +34,6 @@ passed_one opened {n} {t} p here none q l h e = go (decide (q is p))
     go (inr z) = let d : q ≡ p → ⊥ = isnt→ z in none q (omega arith) h e
 
 -- A PLACE IS GIVEN
-pub copied : {rows next : List ℕ} {p x : ℕ} → 64 ≤ x → Copying rows p x next → CopiesRow rows p next
-copied h c = record { size = c.size; copied = λ y l. c.sees y (omega arith); others = c.others }
-
 pub given : {opened rows marks next : List ℕ} {p t : ℕ} → length rows ≡ 8643 → 1 ≤ p → p ≤ 128 → CopiesRow rows p next
     → Given opened rows marks p t (set (set opened (p - 1) t) (128 + t % 128) p) (set (set next (p * 67) t) (p * 67 + 1) 0) (set (set marks ((p - 1) * 2) 0) ((p - 1) * 2 + 1) 0)
 unfolding sees_at

@@ -1,14 +1,14 @@
 -- A begin is taken: 7, 18, or a place given to its transaction.
 use mathlib.Core.Path.{◌≡◌, refl, ◌∙◌}
 use mathlib.Core.Bool.{true, false}
-use mathlib.Core.Logic.{◌⊎◌, inl, inr, ⊎_elim}
+use mathlib.Core.Logic.{⊎_elim}
 use mathlib.Core.List.{List}
 use Prim.Native.Nat.{ℕ, ◌+◌, ◌-◌, ◌*◌, ◌%◌, ◌≤◌, ◌<◌}
 use native.Mathlib.Omega.{arith}
 use lib.ListN.{length, set, length-set}
 use lib.Seq.{get_or-set_other}
-use Rattle.words.specs.Tests.{◌below◌, ◌upto◌, provided◌then◌else◌}
-use Rattle.words.proofs.Truth.{decide, below→, not_below→, upto→, →upto, not_upto→, →not_upto, provided_true, provided_false}
+use Rattle.words.specs.Tests.{◌upto◌}
+use Rattle.words.proofs.Truth.{decide, upto→, →upto, not_upto→, →not_upto}
 use Rattle.live.specs.Answers.{Said, Taken}
 use Rattle.live.specs.SoFar.{numbers, passed}
 use Rattle.live.specs.Kept.{places, full}
@@ -90,9 +90,9 @@ module _ {l : Live} {o r m e : List ℕ} {k t x s : ℕ} (size : Sized (table o 
     begin_eighteen q = took_refused 18 (λ z. omega arith) size room (λ log y.
         number_eighteen (full numbers places) log k t x s fine begin (unpassed y.held low above) (all_in_use y (λ z v. f.used z v.0 (omega (arith, v.1)))))
 
-    pub begin_taken : p ≤ places → {o' r' m' : List ℕ} {n : ℕ} → n ≡ (provided l.count below p then p else l.count) → Given o r m p t o' r' m'
+    pub begin_taken : p ≤ places → {o' r' m' : List ℕ} {n : ℕ} → (l.count ≤ n) × (p ≤ n) × (n ≤ places) → Given o r m p t o' r' m'
         → Took l (table o r m e) k t x s (record { live = record { standing = l.standing; top = t; count = n }; said = Taken }) (table o' r' m' e)
-    begin_taken q {n = n} i g =
+    begin_taken q {n = n} bound g =
         took_taken t n (λ (w : k ≡ 4). omega arith) (given_sized size u g) bound.2
         (λ log y.
         let h = y.held in
@@ -102,10 +102,3 @@ module _ {l : Live} {o r m e : List ℕ} {k t x s : ℕ} (size : Sized (table o 
       where
         u : Place places p
         u = (f.from_one, q)
-
-        bound : (l.count ≤ n) × (p ≤ n) × (n ≤ places)
-        bound = go (decide (l.count below p))
-          where
-            go : ((l.count below p) ≡ true) ⊎ ((l.count below p) ≡ false) → (l.count ≤ n) × (p ≤ n) × (n ≤ places)
-            go (inl z) = let v : n ≡ p = i ∙ provided_true _ _ z in let w = below→ z in (omega arith, omega arith, omega arith)
-            go (inr z) = let v : n ≡ l.count = i ∙ provided_false _ _ z in let w = not_below→ z in (omega arith, omega arith, omega arith)

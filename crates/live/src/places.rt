@@ -64,9 +64,7 @@ fn copy_row(rows: &mut [u16], p: usize)
     requires { (length rows.old ≡ row_numbers) × (1 ≤ p) × (p ≤ 128) }
     ensures { CopiesRow rows.old p rows.new }
 {
-    for x in 0..OBJECTS {
-        rows[p * WIDTH + SEES + x] = rows[SEES + x];
-    }
+    rows.copy_within(SEES..SEES + OBJECTS, p * WIDTH + SEES);
 }
 
 // Gives place p to t, which begins.

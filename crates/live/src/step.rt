@@ -16,6 +16,7 @@ use crate::room::{free_row, give_back};
 use crate::table::{DONE, PLACES, STATUS, UNTIL, WIDTH, WRONG, status, writes};
 use bits::{any_mark, minus};
 use graph::{WORDS, reaches};
+use verdict::Step;
 
 // The small part of the state, as its lent buffer has it: the answer that stands, 0 where none does; the highest number begun; and how many places there are
 // to look at, since all behind them are free.
@@ -38,7 +39,7 @@ fn objects_of(k: u16) -> u16
     ensures { result ≡ (provided k is 2 or k is 3 then 64 else 1) }
 {
     match k {
-        2 | 3 => 64,
+        Step::READ | Step::WRITE => 64,
         _ => 1,
     }
 }
@@ -47,10 +48,10 @@ fn objects_of(k: u16) -> u16
 fn range_number(k: u16, t: u16, x: u16, s: u16) -> Option<u16>
     ensures { FirstApplies k t x s result }
 {
-    if k < 1 {
+    if k < Step::BEGIN {
         return Some(3);
     }
-    if 5 < k {
+    if Step::ABORT < k {
         return Some(3);
     }
     if t < 1 {
@@ -62,7 +63,7 @@ fn range_number(k: u16, t: u16, x: u16, s: u16) -> Option<u16>
     if s == 0 {
         return None;
     }
-    if k == 2 {
+    if k == Step::READ {
         return None;
     }
     Some(6)
@@ -79,16 +80,6 @@ fn breaches(rows: &[u16], marks: &[u64], p: usize) -> bool
     let written = writes(marks, p);
     let same = alike(rows, written, 0, p);
     any_mark(minus(written, same))
-}
-
-// The higher of two numbers.
-fn higher(n: usize, p: usize) -> usize
-    ensures { result ≡ (provided n below p then p else n) }
-{
-    if n < p {
-        return p;
-    }
-    n
 }
 
 // Keeps a commit at place p of transaction t: the edges around it, the last writers, and that it is open no more. Until now `top` is the highest number
@@ -119,6 +110,13 @@ fn settle(
 }
 
 impl Live {
+    // This state, with an answer.
+    fn told(self, said: Said) -> Told
+        ensures { result ≡ record { live = self; said = said } }
+    {
+        Told { live: self, said }
+    }
+
     // A begin of t that is in range.
     fn begin(self, opened: &mut [u16], rows: &mut [u16], marks: &mut [u64], t: u16) -> Told
         requires { (length opened.old ≡ opened_entries) × (length rows.old ≡ row_numbers) × (length marks.old ≡ mark_words) × (1 ≤ t) × (self.count ≤ places) }
@@ -127,29 +125,20 @@ impl Live {
             (table opened.new rows.new marks.new edges) }
     {
         if t <= self.top {
-            return Told {
-                live: self,
-                said: Said::Refused(7),
-            };
+            return self.told(Said::Refused(7));
         }
         let n = self.count;
         let p = free_place(rows, n);
         if PLACES < p {
-            return Told {
-                live: self,
-                said: Said::Refused(18),
-            };
+            return self.told(Said::Refused(18));
         }
         give(opened, rows, marks, p, t);
         let live = Live {
             standing: self.standing,
             top: t,
-            count: higher(n, p),
+            count: n.max(p),
         };
-        Told {
-            live,
-            said: Said::Taken,
-        }
+        live.told(Said::Taken)
     }
 
     // A commit of t at its place p.
@@ -171,13 +160,9 @@ impl Live {
         if breaches(rows, marks, p) {
             let live = Live {
                 standing: BREACH,
-                top: self.top,
-                count: n,
+                ..self
             };
-            return Told {
-                live,
-                said: Said::Breach,
-            };
+            return live.told(Said::Breach);
         }
         let found = find_around(rows, marks, p, n);
         let before = found.before;
@@ -185,24 +170,16 @@ impl Live {
         if reaches(edges, after, before) {
             let live = Live {
                 standing: CLOSED,
-                top: self.top,
-                count: n,
+                ..self
             };
-            return Told {
-                live,
-                said: Said::CycleClosed,
-            };
+            return live.told(Said::CycleClosed);
         }
         settle(opened, rows, marks, edges, before, after, p, t, self.top, n);
         let live = Live {
-            standing: self.standing,
-            top: self.top,
             count: give_back(opened, rows, edges, n),
+            ..self
         };
-        Told {
-            live,
-            said: Said::Yes,
-        }
+        live.told(Said::Yes)
     }
 
     // An abort at place p: its transaction is forgotten at once.
@@ -215,14 +192,10 @@ impl Live {
         opened[p - 1] = 0;
         free_row(rows, p);
         let live = Live {
-            standing: self.standing,
-            top: self.top,
             count: give_back(opened, rows, edges, self.count),
+            ..self
         };
-        Told {
-            live,
-            said: Said::Taken,
-        }
+        live.told(Said::Taken)
     }
 
     // A step in range of the open transaction t at its place p, which is no begin.
@@ -243,21 +216,15 @@ impl Live {
         ensures { Took self (table opened.old rows.old marks.old edges.old) k t x s result
             (table opened.new rows.new marks.new edges.new) }
     {
-        if k == 2 {
+        if k == Step::READ {
             note_read(rows, marks, p, t, x as usize, s);
-            return Told {
-                live: self,
-                said: Said::Taken,
-            };
+            return self.told(Said::Taken);
         }
-        if k == 3 {
+        if k == Step::WRITE {
             note_write(marks, p, x as usize);
-            return Told {
-                live: self,
-                said: Said::Taken,
-            };
+            return self.told(Said::Taken);
         }
-        if k == 5 {
+        if k == Step::ABORT {
             return self.abort(opened, rows, edges, p);
         }
         self.commit(opened, rows, marks, edges, p, t)
@@ -280,31 +247,19 @@ impl Live {
             (table opened.new rows.new marks.new edges.new) }
     {
         if self.standing == BREACH {
-            return Told {
-                live: self,
-                said: Said::Breach,
-            };
+            return self.told(Said::Breach);
         }
         if self.standing == CLOSED {
-            return Told {
-                live: self,
-                said: Said::CycleClosed,
-            };
+            return self.told(Said::CycleClosed);
         }
         if let Some(number) = range_number(k, t, x, s) {
-            return Told {
-                live: self,
-                said: Said::Refused(number),
-            };
+            return self.told(Said::Refused(number));
         }
-        if k == 1 {
+        if k == Step::BEGIN {
             return self.begin(opened, rows, marks, t);
         }
         match place_of(opened, self.count, t) {
-            None => Told {
-                live: self,
-                said: Said::Refused(8),
-            },
+            None => self.told(Said::Refused(8)),
             Some(p) => self.inside(opened, rows, marks, edges, p, k, t, x, s),
         }
     }

@@ -1,11 +1,11 @@
 // The planner: every commit is taken back at first, and then the lowest that can be is given back, again and again.
 ghost use Rattle.std.specs.Prelude.{◌≡◌, ◌<◌, length};
-ghost use Rattle.words.specs.Tests.{◌is◌, provided◌then◌else◌, lowest};
+ghost use Rattle.words.specs.Tests.{◌is◌, provided◌then◌else◌};
 ghost use Rattle.verdict.specs.Refusal.{log_refusal};
 ghost use Rattle.verdict.specs.Answers.{Passed};
 ghost use Rattle.plan.specs.RedoCall.{RedoCall};
 ghost use Rattle.plan.specs.Inner.Marks.{table};
-ghost use Rattle.plan.specs.Inner.Planning.{can_try, Planned};
+ghost use Rattle.plan.specs.Inner.Planning.{can_try, LowestToTry, Planned};
 
 use crate::changed::is_fine;
 use crate::committed::who_committed;
@@ -27,17 +27,20 @@ fn can_try(back: &[u8; Transaction::TABLE], waits: &[usize; Transaction::TABLE],
     !is_marked(back, waits[t])
 }
 
-// The lowest that can be tried; the size of the table where none can.
-fn lowest_to_try(back: &[u8; Transaction::TABLE], waits: &[usize; Transaction::TABLE]) -> usize
+// The lowest that can be tried, if any can.
+fn lowest_to_try(
+    back: &[u8; Transaction::TABLE],
+    waits: &[usize; Transaction::TABLE],
+) -> Option<usize>
     requires { (length back.now ≡ table) × (length waits.now ≡ table) }
-    ensures { result ≡ lowest table (can_try back.now waits.now) }
+    ensures { LowestToTry back.now waits.now result }
 {
     for t in 0..Transaction::TABLE {
         if can_try(back, waits, t) {
-            return t;
+            return Some(t);
         }
     }
-    Transaction::TABLE
+    None
 }
 
 // The mark of one that was tried: it goes where nobody has to be waited for.
@@ -57,12 +60,10 @@ fn plan(log: &[u16]) -> [u8; Transaction::TABLE]
 {
     let mut back = who_committed(log);
     let mut waits = [0usize; Transaction::TABLE];
-    let mut t = lowest_to_try(&back, &waits);
-    while t < Transaction::TABLE {
+    while let Some(t) = lowest_to_try(&back, &waits) {
         let waited = try_back(log, back, t);
         back[t] = mark_after(waited);
         waits[t] = waited;
-        t = lowest_to_try(&back, &waits);
     }
     back
 }

@@ -5,7 +5,9 @@ use mathlib.Core.List.{List, [], ◌∷◌, ◌++◌}
 use mathlib.Core.Logic.{◌⊎◌, inl, inr, ⊎_elim}
 use Prim.Native.Nat.{ℕ, zero, suc, ◌+◌, ◌-◌, ◌*◌, ◌/◌, ◌%◌, ◌≤◌, ◌<◌}
 use native.Mathlib.Omega.{arith}
-use Rattle.words.specs.Tests.{◌below◌}
+use Rattle.std.specs.Char.{is_ascii_digit}
+use Rattle.std.specs.Prelude.{◌&&◌, leb}
+use Rattle.words.specs.Tests.{◌below◌, ◌upto◌, ◌and◌}
 use Rattle.words.specs.Lists.{all}
 use Rattle.words.proofs.Truth.{decide, not_both, and→, →and, below→, →below, not_below→, upto→, →upto, provided_true, provided_false}
 use Rattle.text.specs.Decimal.{digit, digits, decimal}
@@ -71,6 +73,15 @@ value_spelled (more {n} {v} {d} {w} e p q s) = value_append 0 w (digit d ∷ [])
 pub →is_digit : (d : ℕ) → d < 10 → is_digit (digit d) ≡ true
 unfolding is_digit digit
 →is_digit d h = →and (→upto (omega arith)) (→upto (omega arith))
+
+-- the library's test is the same
+pub ascii_digit : (b : ℕ) → is_ascii_digit b ≡ is_digit b
+unfolding is_digit ◌upto◌ ◌and◌
+ascii_digit b = both (leb 48 b) (leb b 57)
+  where
+    both : (x y : Bool) → (x && y) ≡ (x and y)
+    both true y = refl
+    both false y = refl
 
 pub is_digit→ : (b : ℕ) → is_digit b ≡ true → (48 ≤ b) × (b ≤ 57)
 unfolding is_digit

@@ -4,16 +4,6 @@ ghost use Rattle.text.specs.Decimal.{decimal};
 ghost use Rattle.text.specs.Line.{sayable, item as Line·item};
 ghost use Rattle.text.specs.Inner.Finds.{starts, Finds, is_digit};
 
-// Whether b is a digit.
-fn is_digit(b: u8) -> bool
-    ensures { result ≡ is_digit b }
-{
-    if b < b'0' {
-        return false;
-    }
-    b <= b'9'
-}
-
 // Whether the word stands in the text at this place.
 pub(crate) fn stands(text: &[u8], at: usize, word: &[u8]) -> bool
     requires { at ≤ length text.now }
@@ -31,7 +21,7 @@ fn number_at(text: &[u8], at: usize, behind: u8) -> Option<(u16, usize)>
         return None;
     }
     let first = text[at];
-    if !is_digit(first) {
+    if !first.is_ascii_digit() {
         return None;
     }
     let mut value = (first - b'0') as usize;
@@ -40,7 +30,7 @@ fn number_at(text: &[u8], at: usize, behind: u8) -> Option<(u16, usize)>
         if b == behind {
             return Some((value as u16, i + 1));
         }
-        if !is_digit(b) {
+        if !b.is_ascii_digit() {
             return None;
         }
         if value == 0 {

@@ -4,21 +4,17 @@ ghost use Rattle.verdict.specs.Limits.{transactions};
 ghost use Rattle.verdict.specs.Refusal.{log_refusal};
 ghost use Rattle.verdict.specs.Clean.{cleanness};
 ghost use Rattle.verdict.specs.Snapshot.{snapshot_verdict};
-ghost use Rattle.verdict.specs.Judgement.{Holds, ExactIs, Judges};
-ghost use Rattle.verdict.specs.Conflict.{Conflict};
-ghost use Rattle.verdict.specs.Version.{Version};
+ghost use Rattle.verdict.specs.Judgement.{ExactIs, Judges};
 ghost use Rattle.verdict.specs.Answers.{Passed};
-ghost use Rattle.text.specs.Report.{ConflictLine, VersionLine, ExactLine, first_lines, LogReport, ReportOf};
+ghost use Rattle.text.specs.Report.{ExactLine, first_lines, LogReport, ReportOf};
 ghost use Rattle.text.specs.ReportCall.{report_bytes, ReportCall};
-ghost use Rattle.text.specs.Inner.Put.{Puts, PutsLine, most_long, most_exact};
+ghost use Rattle.text.specs.Inner.Put.{Puts, PutsLine, most_exact};
 
 use crate::clear::clear_bytes_from;
 use crate::put::{put_item, put_word};
 use crate::report_line::{put_answer, put_clean, put_refused, put_snapshot};
 use crate::{Text, read};
-use verdict::answers::{
-    Cleanness, ExactWitnessed, Exactness, Judgement, Refusal, Snapshot, Witnessed,
-};
+use verdict::answers::{Cleanness, ExactWitnessed, Exactness, Judgement, Refusal, Snapshot};
 use verdict::{Log, committed_count, judge};
 
 // Puts the lines before those of the verdicts with a witness.
@@ -30,26 +26,6 @@ fn put_first(log: &[u16], clean: Cleanness, snapshot: Snapshot, out: &mut [u8]) 
     let b = put_item(out, a, b"committed=", committed_count(log), b'\n');
     let c = put_clean(out, b, clean);
     put_snapshot(out, c, snapshot)
-}
-
-// Puts the line of the conflict verdict.
-fn put_conflict(log: &[u16], found: Witnessed, out: &mut [u8], at: usize) -> usize
-    requires { (log_refusal log.now ≡ Passed) × Holds (Conflict transactions log.now) found × (at + most_long ≤ length out.old) }
-    ensures { PutsLine most_long (ConflictLine log.now) at out.old result out.new }
-{
-    let answer = found.answer;
-    let list = found.list;
-    put_answer(out, at, b"conflict=", answer, &list)
-}
-
-// Puts the line of the version verdict.
-fn put_version(log: &[u16], found: Witnessed, out: &mut [u8], at: usize) -> usize
-    requires { (log_refusal log.now ≡ Passed) × Holds (Version transactions log.now) found × (at + most_long ≤ length out.old) }
-    ensures { PutsLine most_long (VersionLine log.now) at out.old result out.new }
-{
-    let answer = found.answer;
-    let list = found.list;
-    put_answer(out, at, b"version=", answer, &list)
 }
 
 // Puts the line of the exact verdict.
@@ -76,8 +52,8 @@ fn put_verdicts(log: &[u16], judgement: Judgement, out: &mut [u8]) -> usize
     let version = judgement.version;
     let exact = judgement.exact;
     let a = put_first(log, clean, snapshot, out);
-    let b = put_conflict(log, conflict, out, a);
-    let c = put_version(log, version, out, b);
+    let b = put_answer(out, a, b"conflict=", conflict.answer, &conflict.list);
+    let c = put_answer(out, b, b"version=", version.answer, &version.list);
     put_exact(log, exact, out, c)
 }
 

@@ -1,6 +1,6 @@
 -- How far the planner has come: who is still taken back, and whom each waits for.
-use Rattle.std.specs.Prelude.{◌≡◌, Bool, false, List, ℕ, length, get_or}
-use Rattle.words.specs.Tests.{◌and◌, fails}
+use Rattle.std.specs.Prelude.{◌≡◌, Bool, false, List, ℕ, ◌<◌, length, get_or, Option, MatchOption}
+use Rattle.words.specs.Tests.{◌and◌, fails, some, lowest}
 use Rattle.verdict.specs.Limits.{transactions}
 use Rattle.verdict.specs.Log.{committed}
 use Rattle.plan.specs.TakenBack.{taken_back}
@@ -12,6 +12,11 @@ use Rattle.plan.specs.Inner.Trials.{Waits}
 -- t can be tried: it is taken back, and does not wait for one that is
 unfoldable pub can_try : (back waits : List ℕ) → ℕ → Bool
 can_try back waits t = marked back t and fails (marked back (get_or waits t 0))
+
+-- the lowest that can be tried, or nobody can be
+abbrev pub LowestToTry : (back waits : List ℕ) → Option ℕ → Type 0
+LowestToTry back waits found =
+    MatchOption found (some table (can_try back waits) ≡ false) (λ t. (t < table) × (t ≡ lowest table (can_try back waits)))
 
 -- giving back ends as it does from all that committed on; the log is fine; and who is noted to wait does
 pub record Planning (log back waits : List ℕ) : Type 0 where

@@ -1,18 +1,26 @@
 -- `copy_row` meets its contract.
-use mathlib.Core.Path.{refl, ◌∙◌}
+use mathlib.Core.Path.{◌≡◌, ap, ◌∙◌}
+use mathlib.Core.Logic.{◌⊎◌, inl, inr, ⊎_elim}
 use native.Mathlib.Omega.{arith}
-use Rattle.live.proofs.PlaceLaws.{copied}
-use Rattle.live.proofs.Cells.{copying_none, copying_more}
+use Prim.Native.Nat.{◌+◌, ◌-◌, ◌*◌, ◌<◌, ◌≤◌}
+use lib.ListN.{get_or}
+use Rattle.words.specs.Tests.{◌below◌}
+use Rattle.words.proofs.Truth.{decide, below→, not_below→}
+use Rattle.live.specs.Inner.Table.{cell, sees_at}
 use Rattle.live.proofs.places.copy_row.Goals as goal
 
-pub loop-x-init : goal.loop-x-init
-loop-x-init c = let q = c.requires in (q.1, q.2, q.0, q.0, copying_none _ _)
-
-pub loop-x-preserved : goal.loop-x-preserved
-loop-x-preserved c = let i = c.loop-x.invariant in let n = copying_more i.4 i.2 i.0 i.1 (omega arith) refl refl in (i.0, i.1, i.2, n.size ∙ i.2, n)
-
-pub shape_of-rows : goal.shape_of-rows
-shape_of-rows c = c.loop-x.invariant.4.size
-
 pub returns : goal.returns
-returns c = let i = c.loop-x.invariant in copied (omega arith) i.4
+unfolding cell sees_at
+returns c =
+    let rows = c.args.rows.now in
+    let p = c.args.p in
+    let by = c.copy_within.ensures.by_index in
+    record {
+      size = c.copy_within.ensures.len;
+      copied = λ x l.
+          let same : 2 + (p * 67 + (2 + x) - (p * 67 + 2)) ≡ 0 * 67 + (2 + x) = omega arith in
+          by.0 (p * 67 + (2 + x)) 0 (omega arith) (omega arith) ∙ ap (λ i. get_or rows i 0) same;
+      others = λ q d h l n.
+          let side : (q * 67 + d < p * 67 + 2) ⊎ (p * 67 + 2 + 64 ≤ q * 67 + d) = ⊎_elim (λ k. inl (omega (arith, below→ k))) (λ k. inr (omega (arith, not_below→ k, n))) (decide (q below p)) in
+          ⊎_elim (λ k. by.1 (q * 67 + d) 0 k) (λ k. by.2 (q * 67 + d) 0 (omega arith)) side;
+    }

@@ -15,4 +15,4 @@ give_back-requires c =
 pub returns : goal.returns
 returns c =
     let p = c.requires in
-    λ marks k t x s m low here e f. abort_taken (record { opened = p.0; rows = p.1; marks = m; edges = p.2 }) p.3 p.4 low here e f c.free_row.ensures (c.give_back.ensures marks)
+    rw c.told.ensures (λ marks k t x s m low here e f. abort_taken (record { opened = p.0; rows = p.1; marks = m; edges = p.2 }) p.3 p.4 low here e f c.free_row.ensures (c.give_back.ensures marks))
