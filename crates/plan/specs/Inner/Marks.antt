@@ -33,7 +33,7 @@ pub record Committed (log marks : List ℕ) : Type 0 where
 abbrev pub MembersOf : (who proposal : List ℕ) → Option Members → Type 0
 MembersOf who proposal (Some m) =
     Split proposal m.count × (distinct (up_to_zero proposal) ≡ true) × (all (marked who) (up_to_zero proposal) ≡ true)
-        × (length m.marks ≡ table)
+    × (length m.marks ≡ table)
     × ((t : ℕ) → marked m.marks t ≡ member t (up_to_zero proposal))
 MembersOf who proposal None = (distinct (up_to_zero proposal) and all (marked who) (up_to_zero proposal)) ≡ false
 
