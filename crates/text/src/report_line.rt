@@ -139,7 +139,9 @@ fn put_value(out: &mut [u8], at: usize, answer: Answer, list: &[u16]) -> usize
     }
 }
 
-// Puts the line of a verdict with a witness.
+// Puts the line of a verdict with a witness. It is inlined, so that the length of the key is known where it is copied: else the archive
+// would ask its caller for `memmove`.
+#[inline(always)]
 pub(crate) fn put_answer(
     out: &mut [u8],
     at: usize,

@@ -5,11 +5,13 @@ use std::io;
 use text::OneLine;
 use verdict::answers::Refusal;
 
-// The number of a line that is not in form.
-pub(crate) const FORMLESS: u16 = 16;
+// Prints the answer to a line that is not in form, whose number is always the same.
+pub(crate) fn print_formless(rt: &impl Print) -> io::Result<()> {
+    rt.write_all(b"refused=16\n")
+}
 
 // Prints the line of a refused step.
-pub(crate) fn print_refused(rt: &impl Print, number: u16) -> io::Result<()> {
+fn print_refused(rt: &impl Print, number: u16) -> io::Result<()> {
     println!(rt; "refused={number}")
 }
 
@@ -69,7 +71,7 @@ impl Judge {
         match line.said() {
             OneLine::Step(k, t, x, s) => self.answer_step(rt, [k, t, x, s]),
             OneLine::Header if line.first => Ok(()),
-            _ => print_refused(rt, FORMLESS),
+            _ => print_formless(rt),
         }
     }
 }

@@ -5,7 +5,7 @@ mod begun;
 mod judge;
 
 use crate::begun::Begun;
-use crate::judge::{FORMLESS, Judge, print_refused};
+use crate::judge::{Judge, print_formless};
 use input::{arg_count, say};
 use output::ended;
 use std::io;
@@ -48,7 +48,7 @@ fn watch(rt: &impl Runtime) -> io::Result<()> {
     if line.is_empty() {
         return Ok(());
     }
-    print_refused(rt, FORMLESS)
+    print_formless(rt)
 }
 
 fn main(rt: HostRuntime) -> io::Result<()> {
