@@ -5,7 +5,7 @@
 mod named;
 
 use crate::named::propose;
-use input::{argument, one_log, say};
+use input::{ARGUMENT, OfLog, argument, one_log, say};
 use output::{ended, print_refused};
 use plan::{Acceptance, accepts};
 use std::io;
@@ -13,32 +13,36 @@ use std::rt::Runtime;
 use verdict::answers::Refusal;
 use verdict::{Log, Transaction};
 
-// Prints whether a proposal for a log will do.
-fn print_accepts(
-    rt: &impl Print,
-    log: &[u16],
-    members: &[u16; Transaction::COUNT],
-) -> io::Result<()> {
-    let mut work = [0u8; Log::WORK];
-    match accepts(log, members, &mut work) {
-        Ok(acceptance) => match acceptance {
-            Acceptance::Yes => rt.write_all(b"yes\n"),
-            Acceptance::No => rt.write_all(b"no\n"),
-        },
-        Err(Refusal(number, place)) => print_refused(rt, number, place),
+// What is printed of a log: whether this proposal for it will do.
+#[derive(Drop)]
+struct Proposal {
+    members: [u16; Transaction::COUNT],
+}
+
+impl OfLog for Proposal {
+    fn print<P: Print>(&self, rt: &P, log: &[u16]) -> io::Result<()> {
+        let mut work = [0u8; Log::WORK];
+        match accepts(log, &self.members, &mut work) {
+            Ok(acceptance) => match acceptance {
+                Acceptance::Yes => rt.write_all(b"yes\n"),
+                Acceptance::No => rt.write_all(b"no\n"),
+            },
+            Err(Refusal(number, place)) => print_refused(rt, number, place),
+        }
     }
 }
 
 // Prints whether the proposal will do for the log that the program is given.
 fn print_given(rt: &impl Runtime) -> io::Result<()> {
-    let Some(members) = argument(rt, 1, propose) else {
+    let mut bytes = [0u8; ARGUMENT];
+    let Some(members) = argument(rt, 1, &mut bytes).and_then(propose) else {
         say(
             rt,
             "accepts: name the transactions to take back, 1 to 128 with commas between, as in 2,5, or - for none",
         );
         return Ok(());
     };
-    one_log(rt, "accepts", 2, |log| print_accepts(rt, log, &members))
+    one_log(rt, "accepts", 2, &Proposal { members })
 }
 
 fn main(rt: HostRuntime) -> io::Result<()> {

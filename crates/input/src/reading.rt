@@ -1,15 +1,22 @@
 // What standard input and files hold, read into a lent buffer. Where reading fails, standard error has a line.
-ghost use Rattle.std.specs.Prelude.{◌≤◌, length, IfSome};
+ghost use Rattle.std.specs.Prelude.{◌≡◌, ◌≤◌, length, IfSome, IsNone, Ok};
 ghost use Rattle.std.specs.Io.{ReadsAtMost, StartsWith};
 
-use crate::{ARGUMENT, say};
+use crate::{ARGUMENT, argument, say};
 use std::io::Read;
 use std::rt::{Env, Files};
 use std::{fmt, fs, io, str};
 
-// Says on standard error what could not be read, and why.
-fn fail(rt: &impl Eprint, what: impl fmt::Display + Drop, why: impl fmt::Display + Drop) {
+// Says on standard error what could not be read, and why. Nothing comes of it.
+fn fail<T>(
+    rt: &impl Eprint,
+    what: impl fmt::Display + Drop,
+    why: impl fmt::Display + Drop,
+) -> Option<T>
+    ensures { IsNone result }
+{
     say(rt, format_args!("{what}: {why}"));
+    None
 }
 
 // Reads until the input ends or the buffer is full, and answers how many bytes stand at its start.
@@ -26,7 +33,7 @@ fn read_text(from: &mut impl Read, buffer: &mut [u8]) -> io::Result<usize>
     Ok(n)
 }
 
-// The text that reading has left at the start of the buffer.
+// The text that reading has left at the start of the buffer: as many bytes as were read, and none where it failed.
 fn told<'a>(
     rt: &impl Eprint,
     what: &str,
@@ -34,14 +41,11 @@ fn told<'a>(
     buffer: &'a [u8],
 ) -> Option<&'a [u8]>
     requires { ReadsAtMost read buffer.now }
-    ensures { IfSome result (λ text. StartsWith buffer.now text.now) }
+    ensures { IfSome result (λ text. (read ≡ Ok (length text.now)) × StartsWith buffer.now text.now) }
 {
     match read {
         Ok(n) => Some(&buffer[..n]),
-        Err(error) => {
-            fail(rt, what, error);
-            None
-        }
+        Err(error) => fail(rt, what, error),
     }
 }
 
@@ -62,11 +66,7 @@ fn read_opened(rt: &impl Files, name: &str, buffer: &mut [u8]) -> io::Result<usi
 }
 
 // Reads the file of this name.
-pub(crate) fn read_file<'a, R: Files + Eprint>(
-    rt: &R,
-    name: &str,
-    buffer: &'a mut [u8],
-) -> Option<&'a [u8]>
+fn read_file<'a, R: Files + Eprint>(rt: &R, name: &str, buffer: &'a mut [u8]) -> Option<&'a [u8]>
     ensures { IfSome result (λ text. length text.now ≤ length buffer.old) }
 {
     let read = read_opened(rt, name, buffer);
@@ -74,20 +74,30 @@ pub(crate) fn read_file<'a, R: Files + Eprint>(
 }
 
 // The file name that an argument gives.
-pub(crate) fn file_name<'a, R: Env + Eprint>(
+fn file_name<'a, R: Env + Eprint>(
     rt: &R,
     i: usize,
-    argument: &'a mut [u8; ARGUMENT],
+    bytes: &'a mut [u8; ARGUMENT],
 ) -> Option<&'a str> {
-    let Ok(n) = rt.arg(i, argument) else {
-        fail(rt, "a file name", "File name too long");
-        return None;
+    let Some(part) = argument(rt, i, bytes) else {
+        return fail(rt, "a file name", "File name too long");
     };
-    match str::from_utf8(&argument[..n]) {
+    match str::from_utf8(part) {
         Ok(name) => Some(name),
-        Err(error) => {
-            fail(rt, argument[..n].escape_ascii(), error);
-            None
-        }
+        Err(error) => fail(rt, part.escape_ascii(), error),
     }
+}
+
+// Reads the file that an argument names, and answers its name and its text.
+pub(crate) fn read_named<'a, R: Env + Files + Eprint>(
+    rt: &R,
+    i: usize,
+    bytes: &'a mut [u8; ARGUMENT],
+    buffer: &'a mut [u8],
+) -> Option<(&'a str, &'a [u8])>
+    ensures { IfSome result (λ read. length read.1.now ≤ length buffer.old) }
+{
+    let name = file_name(rt, i, bytes)?;
+    let text = read_file(rt, name, buffer)?;
+    Some((name, text))
 }

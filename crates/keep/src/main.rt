@@ -5,12 +5,9 @@
 mod kept;
 mod named;
 
-ghost use Rattle.std.specs.Prelude.{◌≤◌, length};
-ghost use Rattle.text.specs.ReadCall.{step_entries};
-
 use crate::kept::keep_steps;
 use crate::named::mark_named;
-use input::{argument, one_log, say};
+use input::{ARGUMENT, OfLog, argument, one_log, say};
 use output::{ended, print_refused};
 use std::io;
 use std::rt::Runtime;
@@ -27,25 +24,35 @@ fn print_text(rt: &impl Print, log: &[u16]) -> io::Result<()> {
     }
 }
 
-// Prints what is kept of a log.
-fn print_kept(rt: &impl Print, log: &[u16], marks: &[u8; Transaction::TABLE]) -> io::Result<()>
-    requires { length log.now ≤ step_entries }
-{
-    let mut kept = [0u16; 4 * Log::LIMIT];
-    let n = keep_steps(log, marks, &mut kept);
-    print_text(rt, &kept[..n])
+// What is printed of a log: its text with only the steps of the transactions that are marked. A log that is longer than a log may be is
+// turned away.
+#[derive(Drop)]
+struct Marks {
+    marks: [u8; Transaction::TABLE],
+}
+
+impl OfLog for Marks {
+    fn print<P: Print>(&self, rt: &P, log: &[u16]) -> io::Result<()> {
+        let mut kept = [0u16; 4 * Log::LIMIT];
+        if kept.len() < log.len() {
+            return print_refused(rt, 2, 0);
+        }
+        let n = keep_steps(log, &self.marks, &mut kept);
+        print_text(rt, &kept[..n])
+    }
 }
 
 // Prints what is kept of the log that the program is given.
 fn print_given(rt: &impl Runtime) -> io::Result<()> {
-    let Some(marks) = argument(rt, 1, mark_named) else {
+    let mut bytes = [0u8; ARGUMENT];
+    let Some(marks) = argument(rt, 1, &mut bytes).and_then(mark_named) else {
         say(
             rt,
             "keep: name the transactions to keep, 1 to 128 with commas between, as in 1,3",
         );
         return Ok(());
     };
-    one_log(rt, "keep", 2, |log| print_kept(rt, log, &marks))
+    one_log(rt, "keep", 2, &Marks { marks })
 }
 
 fn main(rt: HostRuntime) -> io::Result<()> {

@@ -8,7 +8,7 @@ ghost use Rattle.verdict.specs.Witness.{read_off, handed};
 ghost use Rattle.verdict.specs.Next.{up_to_zero};
 ghost use Rattle.verdict.proofs.Listing.{to_come};
 
-use input::each_log;
+use input::{OfLog, each_log};
 use output::{ended, print_numbers, print_refused};
 use std::io;
 use verdict::answers::{Answer, Refusal};
@@ -71,21 +71,26 @@ fn print_later(
     Ok(())
 }
 
-// Prints every order that explains a log, and last `none`.
-fn print_orders(rt: &impl Print, log: &[u16]) -> io::Result<()> {
-    let mut work = [0u8; Log::WORK];
-    let mut witness = [0u16; Transaction::WITNESS];
-    let judged = match version(log, &mut work, &mut witness) {
-        Ok(judged) => judged,
-        Err(Refusal(number, place)) => return print_refused(rt, number, place),
-    };
-    if let Answer::Order(n) = judged {
-        let first = print_order(rt, &witness, n)?;
-        print_later(rt, log, first, &mut work)?;
+// What is printed of a log: every order that explains it, and last `none`.
+#[derive(Drop)]
+struct Orders;
+
+impl OfLog for Orders {
+    fn print<P: Print>(&self, rt: &P, log: &[u16]) -> io::Result<()> {
+        let mut work = [0u8; Log::WORK];
+        let mut witness = [0u16; Transaction::WITNESS];
+        let judged = match version(log, &mut work, &mut witness) {
+            Ok(judged) => judged,
+            Err(Refusal(number, place)) => return print_refused(rt, number, place),
+        };
+        if let Answer::Order(n) = judged {
+            let first = print_order(rt, &witness, n)?;
+            print_later(rt, log, first, &mut work)?;
+        }
+        rt.write_all(b"none\n")
     }
-    rt.write_all(b"none\n")
 }
 
 fn main(rt: HostRuntime) -> io::Result<()> {
-    ended(each_log(&rt, |log| print_orders(&rt, log)))
+    ended(each_log(&rt, &Orders))
 }

@@ -14,7 +14,7 @@ mod texts;
 use crate::drawing::Drawing;
 use crate::page::Shown;
 use crate::steps::{Steps, small};
-use input::one_log;
+use input::{OfLog, one_log};
 use output::{ended, print_refused};
 use std::io;
 use verdict::answers::{Answer, Refusal};
@@ -30,16 +30,21 @@ fn shown(answer: Answer) -> Shown {
     }
 }
 
-// Draws a log, if it is not turned away.
-fn print_picture(rt: &impl Print, log: &[u16]) -> io::Result<()> {
-    let mut work = [0u8; Log::WORK];
-    let mut witness = [0u16; Transaction::WITNESS];
-    match version(log, &mut work, &mut witness) {
-        Ok(judged) => Drawing::new(Steps { log }, shown(judged), &witness).print(rt),
-        Err(Refusal(number, place)) => print_refused(rt, number, place),
+// What is printed of a log: its picture, if it is not turned away.
+#[derive(Drop)]
+struct Picture;
+
+impl OfLog for Picture {
+    fn print<P: Print>(&self, rt: &P, log: &[u16]) -> io::Result<()> {
+        let mut work = [0u8; Log::WORK];
+        let mut witness = [0u16; Transaction::WITNESS];
+        match version(log, &mut work, &mut witness) {
+            Ok(judged) => Drawing::new(Steps { log }, shown(judged), &witness).print(rt),
+            Err(Refusal(number, place)) => print_refused(rt, number, place),
+        }
     }
 }
 
 fn main(rt: HostRuntime) -> io::Result<()> {
-    ended(one_log(&rt, "picture", 1, |log| print_picture(&rt, log)))
+    ended(one_log(&rt, "picture", 1, &Picture))
 }

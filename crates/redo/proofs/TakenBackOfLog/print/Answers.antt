@@ -2,7 +2,7 @@
 use mathlib.Core.Path.{sym}
 use lib.Seq.{length-take-le}
 use Rattle.redo.proofs.Members.{members_within}
-use Rattle.redo.proofs.print_redo.Goals as goal
+use Rattle.redo.proofs.TakenBackOfLog.print.Goals as goal
 
 pub slice_bounds-members-end : goal.slice_bounds-members-end
 slice_bounds-members-end g c = members_within c.args.log.now c.in-Ok.is c.redo.ensures

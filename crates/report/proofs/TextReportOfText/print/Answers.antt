@@ -3,7 +3,7 @@ use borrow.Author.Rules.{rules}
 use mathlib.Core.Path.{sym}
 use lib.Seq.{length-take-le}
 use Rattle.report.proofs.Reports.{report_within_buffer}
-use Rattle.report.proofs.print_report.Goals as goal
+use Rattle.report.proofs.TextReportOfText.print.Goals as goal
 
 pub slice_bounds-out-end : goal.slice_bounds-out-end
 slice_bounds-out-end g c = report_within_buffer c.in-Ok.is (search rules) c.report.ensures

@@ -1,8 +1,8 @@
--- `print_orders` is safe: an order that is shown is within the witness.
+-- Printing the orders is safe: an order that is shown is within the witness.
 use borrow.Author.Rules.{rules}
 use Rattle.verdict.specs.Refusal.{log_refusal}
 use Rattle.orders.proofs.Bringing.{members_within, few_members}
-use Rattle.orders.proofs.print_orders.Goals as goal
+use Rattle.orders.proofs.OrdersOfLog.print.Goals as goal
 
 pub print_order-requires : goal.print_order-requires
 print_order-requires g c =
