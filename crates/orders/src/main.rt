@@ -72,7 +72,6 @@ fn print_later(
 }
 
 // What is printed of a log: every order that explains it, and last `none`.
-#[derive(Drop)]
 struct Orders;
 
 impl OfLog for Orders {

@@ -31,7 +31,6 @@ fn shown(answer: Answer) -> Shown {
 }
 
 // What is printed of a log: its picture, if it is not turned away.
-#[derive(Drop)]
 struct Picture;
 
 impl OfLog for Picture {

@@ -10,7 +10,6 @@ use verdict::answers::Refusal;
 use verdict::{Log, Transaction};
 
 // What is printed of a log: which of its commits are to be taken back.
-#[derive(Drop)]
 struct TakenBack;
 
 impl OfLog for TakenBack {

@@ -7,7 +7,6 @@ use std::io;
 use text::{Text, report};
 
 // What is printed of a text: its report.
-#[derive(Drop)]
 struct TextReport;
 
 impl OfText for TextReport {
