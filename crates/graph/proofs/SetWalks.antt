@@ -25,6 +25,10 @@ use Rattle.graph.proofs.TwoWords.{no_member}
 pub dropped_out : (rest : List ℕ) (u : ℕ) → length rest ≡ 2 → takes_part 128 rest u ≡ true → (t : ℕ) → takes_part 128 (unmarked u rest) t ≡ without u (takes_part 128 rest) t
 dropped_out rest u two h t = let p = part→ 128 rest u h in ap (λ (f : ℕ → Bool). f t) (parts_without 128 rest rest (omega arith) u p.low p.high)
 
+-- fewer are left
+pub fewer : (rest : List ℕ) (u : ℕ) → length rest ≡ 2 → takes_part 128 rest u ≡ true → count 129 (takes_part 128 (unmarked u rest)) < count 129 (takes_part 128 rest)
+fewer rest u two h = omega (arith, part_less 128 rest rest (omega arith) u h)
+
 -- the lowest that passes
 pub lowest_of : (p : ℕ → Bool) (v : ℕ) → some 129 p ≡ true → v ≡ lowest 129 p → IsLowest p v
 lowest_of p v h e = let r = lowest_is p h in record { high = omega (arith, r.0); one = rw e r.1; first = e }
@@ -39,15 +43,9 @@ pub turn_of : {left : List ℕ} {v : ℕ} {others : List ℕ} → IsLowest (take
 turn_of {left} {v} f e = let p = part→ 128 left v f.one in record { low = p.low; high = p.high; one = f.one; first = f.first; after = e }
 
 module _ {left : List ℕ} {v : ℕ} {others : List ℕ} (two : length left ≡ 2) (t : Turn left v others) where
-  turn_out : (u : ℕ) → takes_part 128 others u ≡ without v (takes_part 128 left) u
-  turn_out u = rw t.after (dropped_out left v two t.one u)
-
-  turn_two : length others ≡ 2
-  turn_two = rw t.after (size_unmarked v left ∙ two)
-
   -- the walk ends: fewer are left
   pub turn_fewer : count 129 (takes_part 128 others) < count 129 (takes_part 128 left)
-  turn_fewer = rw t.after (omega (arith, part_less 128 left left (omega arith) v t.one))
+  turn_fewer = rw t.after (fewer left v two t.one)
 
 -- what the edges to the front come from is gathered, but for those to the rest of it
 pub record Gathered (edge : ℕ → ℕ → Bool) (front rest all : List ℕ) : Type 0 where
@@ -58,27 +56,31 @@ pub gathered_none : (edge : ℕ → ℕ → Bool) (front : List ℕ) → length 
 gathered_none edge front two = record { two = two; so_far = λ t. or_false (no_member 2 t) }
 
 module _ {edge : ℕ → ℕ → Bool} {front rest all : List ℕ} (g : Gathered edge front rest all) where
-  pub gathered_more : {u : ℕ} {others : List ℕ} → Turn rest u others → (row more : List ℕ) → ((t : ℕ) → takes_part 128 row t ≡ edge t u) → ((t : ℕ) → takes_part 128 more t ≡ (takes_part 128 all t or takes_part 128 row t))
-      → Gathered edge front others more
-  gathered_more {u} {others} turn row more e m = record { two = turn_two g.two turn; so_far = λ t. same_test (there t) (back t) ∙ g.so_far t }
+  pub gathered_more : (u : ℕ) → takes_part 128 rest u ≡ true → (row more : List ℕ) → ((t : ℕ) → takes_part 128 row t ≡ edge t u) → ((t : ℕ) → takes_part 128 more t ≡ (takes_part 128 all t or takes_part 128 row t))
+      → Gathered edge front (unmarked u rest) more
+  gathered_more u its_turn row more e m = record { two = size_unmarked u rest ∙ g.two; so_far = λ t. same_test (there t) (back t) ∙ g.so_far t }
     where
-      out : (t : ℕ) → takes_part 128 others t ≡ without u (takes_part 128 rest) t
-      out = turn_out g.two turn
+      out : (t : ℕ) → takes_part 128 (unmarked u rest) t ≡ without u (takes_part 128 rest) t
+      out = dropped_out rest u g.two its_turn
 
       bound : u < 129
-      bound = omega (arith, turn.high)
+      bound = let z : u ≤ 128 = (part→ 128 rest u its_turn).high in omega arith
 
-      there : (t : ℕ) → (takes_part 128 more t or some 129 (λ v. takes_part 128 others v and edge t v)) ≡ true → (takes_part 128 all t or some 129 (λ v. takes_part 128 rest v and edge t v)) ≡ true
+      there : (t : ℕ) → (takes_part 128 more t or some 129 (λ v. takes_part 128 (unmarked u rest) v and edge t v)) ≡ true → (takes_part 128 all t or some 129 (λ v. takes_part 128 rest v and edge t v)) ≡ true
       there t h =
-          ⊎_elim (λ (q : takes_part 128 more t ≡ true). ⊎_elim (λ (k : takes_part 128 all t ≡ true). →or_left _ k) (λ (k : takes_part 128 row t ≡ true). →or_right _ (→some _ u bound (→and turn.one (sym (e t) ∙ k)))) (or→ (sym (m t) ∙ q)))
-          (λ (q : some 129 (λ v. takes_part 128 others v and edge t v) ≡ true). let r = some→ q in let k = and→ r.2 in →or_right _ (→some _ r.0 r.1 (→and (without→ (takes_part 128 rest) (sym (out r.0) ∙ k.0)).0 k.1))) (or→ h)
+          ⊎_elim (λ (q : takes_part 128 more t ≡ true). ⊎_elim (λ (k : takes_part 128 all t ≡ true). →or_left _ k) (λ (k : takes_part 128 row t ≡ true). →or_right _ (→some _ u bound (→and its_turn (sym (e t) ∙ k)))) (or→ (sym (m t) ∙ q)))
+          (λ (q : some 129 (λ v. takes_part 128 (unmarked u rest) v and edge t v) ≡ true). let r = some→ q in let k = and→ r.2 in →or_right _ (→some _ r.0 r.1 (→and (without→ (takes_part 128 rest) (sym (out r.0) ∙ k.0)).0 k.1))) (or→ h)
 
-      back : (t : ℕ) → (takes_part 128 all t or some 129 (λ v. takes_part 128 rest v and edge t v)) ≡ true → (takes_part 128 more t or some 129 (λ v. takes_part 128 others v and edge t v)) ≡ true
+      back : (t : ℕ) → (takes_part 128 all t or some 129 (λ v. takes_part 128 rest v and edge t v)) ≡ true → (takes_part 128 more t or some 129 (λ v. takes_part 128 (unmarked u rest) v and edge t v)) ≡ true
       back t h =
           ⊎_elim (λ (q : takes_part 128 all t ≡ true). →or_left _ (m t ∙ →or_left _ q))
           (λ (q : some 129 (λ v. takes_part 128 rest v and edge t v) ≡ true). let r = some→ q in let k = and→ r.2 in
           ⊎_elim (λ (z : (r.0 is u) ≡ true). let w : r.0 ≡ u = is→ z in →or_left _ (m t ∙ →or_right _ (e t ∙ (rw w at k.1))))
           (λ (z : (r.0 is u) ≡ false). →or_right _ (→some _ r.0 r.1 (→and (out r.0 ∙ →without (takes_part 128 rest) k.0 (isnt→ z)) k.1))) (decide (r.0 is u))) (or→ h)
+
+  pub gathered_turn : {u : ℕ} {others : List ℕ} → Turn rest u others → (row more : List ℕ) → ((t : ℕ) → takes_part 128 row t ≡ edge t u) → ((t : ℕ) → takes_part 128 more t ≡ (takes_part 128 all t or takes_part 128 row t))
+      → Gathered edge front others more
+  gathered_turn {u} turn row more e m = rw turn.after (gathered_more u turn.one row more e m)
 
   pub gathered_all : some 129 (takes_part 128 rest) ≡ false → (t : ℕ) → takes_part 128 all t ≡ some 129 (λ u. takes_part 128 front u and edge t u)
   gathered_all none t = sym (or_no (takes_part 128 all t) (→none _ (λ u h. and_no_left _ (none→ _ none u h)))) ∙ g.so_far t
@@ -89,24 +91,27 @@ pub record Sought (passes : ℕ → Bool) (layer rest : List ℕ) : Type 0 where
   pub same : lowest 129 (λ u. takes_part 128 rest u and passes u) ≡ lowest 129 (λ u. takes_part 128 layer u and passes u)
 
 module _ {passes : ℕ → Bool} {layer rest : List ℕ} (s : Sought passes layer rest) where
+  pub sought_on : (u : ℕ) → takes_part 128 rest u ≡ true → passes u ≡ false → Sought passes layer (unmarked u rest)
+  sought_on u its_turn q =
+      record {
+        two = size_unmarked u rest ∙ s.two;
+        same = lowest_same 129 (λ v. takes_part 128 (unmarked u rest) v and passes v) (λ v. takes_part 128 rest v and passes v) (λ v _. each v) ∙ s.same;
+      }
+    where
+      each : (v : ℕ) → (takes_part 128 (unmarked u rest) v and passes v) ≡ (takes_part 128 rest v and passes v)
+      each v =
+          let out = dropped_out rest u s.two its_turn v in
+          same_test (λ h. let r = and→ h in →and (without→ (takes_part 128 rest) (sym out ∙ r.0)).0 r.1)
+          (λ h. let r = and→ h in →and (out ∙ →without (takes_part 128 rest) r.0 (λ (e : v ≡ u). not_both (rw e at r.1) q)) r.1)
+
   module _ {u : ℕ} {others : List ℕ} (turn : Turn rest u others) where
     pub sought_here : passes u ≡ true → IsLowest (λ v. takes_part 128 layer v and passes v) u
     sought_here q =
         let e = sym (lowest_at (λ v. takes_part 128 rest v and passes v) u (omega (arith, turn.high)) (→and turn.one q) (λ (j : ℕ) (l : j < u). and_no_left _ (below_lowest 129 (takes_part 128 rest) j (rw turn.first at l)))) ∙ s.same in
         lowest_of _ u (lowest_passes {n = 129} _ (omega (arith, e, turn.high))) e
 
-    pub sought_on : passes u ≡ false → Sought passes layer others
-    sought_on q =
-        record {
-          two = turn_two s.two turn;
-          same = lowest_same 129 (λ v. takes_part 128 others v and passes v) (λ v. takes_part 128 rest v and passes v) (λ v _. each v) ∙ s.same;
-        }
-      where
-        each : (v : ℕ) → (takes_part 128 others v and passes v) ≡ (takes_part 128 rest v and passes v)
-        each v =
-            let out = turn_out s.two turn v in
-            same_test (λ h. let r = and→ h in →and (without→ (takes_part 128 rest) (sym out ∙ r.0)).0 r.1)
-            (λ h. let r = and→ h in →and (out ∙ →without (takes_part 128 rest) r.0 (λ (e : v ≡ u). not_both (rw e at r.1) q)) r.1)
+    pub sought_turn : passes u ≡ false → Sought passes layer others
+    sought_turn q = rw turn.after (sought_on u turn.one q)
 
   pub sought_all : some 129 (takes_part 128 rest) ≡ false → some 129 (λ u. takes_part 128 layer u and passes u) ≡ false
   sought_all none = lowest_some _ (omega (arith, lowest_none (λ u. takes_part 128 rest u and passes u) (→none _ (λ u h. and_no_left _ (none→ _ none u h))), s.same))
@@ -123,7 +128,7 @@ module _ {F : Type 0} (passes : ℕ → Bool) (No Yes : F → ℕ → F → Type
   passed : (layer : List ℕ) (u t : EachVertex) (r : Option ℕ) (xs : List ℕ) (s : EachVertex) (j : F) → Sought passes layer s.0 → Yields steps s xs t → FoldsTo No f xs j → steps t r u → MatchOption r ⊤ (λ x. (h : F) × Yes j x h)
       → LowestOf (λ v. takes_part 128 layer v and passes v) r
   passed layer u t r [] s j so y g e m = finish layer t u r (subst (λ (z : EachVertex). Sought passes layer z.0) y so) e (subst (λ (k : F). MatchOption r ⊤ (λ x. (h : F) × Yes k x h)) (sym g) m)
-  passed layer u t r (x ∷ xs) s j so y g e m = let n = no x g.0 g.1 in passed layer u t r xs y.0 j (sought_on so y.1 n.1) y.2 (subst (λ (k : F). FoldsTo No k xs j) n.0 g.2) e m
+  passed layer u t r (x ∷ xs) s j so y g e m = let n = no x g.0 g.1 in passed layer u t r xs y.0 j (sought_turn so y.1 n.1) y.2 (subst (λ (k : F). FoldsTo No k xs j) n.0 g.2) e m
 
   pub lowest_found : (s u : EachVertex) (r : Option ℕ) → length s.0 ≡ 2 → (xs : List ℕ) × (j : F) × YieldsThen steps s xs r u × FoldsTo No f xs j × MatchOption r ⊤ (λ x. (h : F) × Yes j x h) → LowestOf (λ v. takes_part 128 s.0 v and passes v) r
   lowest_found s u r two d = passed s.0 u d.2.0 r d.0 s d.1 (record { two = two; same = refl }) d.2.1 d.3 d.2.2 d.4
