@@ -14,7 +14,7 @@ use Rattle.verdict.specs.Log.{steps, kind, tx, obj, src, commits, aborts, writer
 use Rattle.verdict.specs.Answers.{Checked, Passed, Refused}
 use Rattle.verdict.specs.Refusal.{◌at◌when◌, ◌else_try◌, tried, object_allowed, source_allowed, range_refusal, life_refusal, source_refusal, step_refusal, open_refusal, log_refusal}
 use Rattle.verdict.specs.Inner.Checking.{InRange}
-use Rattle.words.proofs.Truth.{decide, not_both, to_true, to_false, and→, →and, or→, →or_left, →or_right, →fails, not_fails→, is→, →is, →isnt, upto→, below→, not_below→, some→, →some, provided_true, provided_false}
+use Rattle.words.proofs.Truth.{decide, not_both, to_true, to_false, and→, →and, or→, →or_left, →or_right, →fails, not_fails→, is→, →is, isnt→, →isnt, upto→, below→, not_below→, some→, →some, provided_true, provided_false}
 
 HasPassed : Checked → Type 0
 HasPassed (Ok _) = Unit {0}
@@ -89,6 +89,10 @@ module _ (log : List ℕ) (i : ℕ) (within : InRange log i) where
   pub source_none : (kind log i ≡ 2 → ⊥) → src log i ≡ 0
   unfolding source_allowed
   source_none k = is→ (rw (provided_false (src log i upto transactions) (src log i is 0) (→isnt k)) at (not_fails→ test_6))
+
+  -- .. so that only a read has a source other than 0
+  pub sourced_read : (src log i ≡ 0 → ⊥) → kind log i ≡ 2
+  sourced_read z = ⊎_elim is→ (λ e. absurd (z (source_none (isnt→ e)))) (decide (kind log i is 2))
 
 -- .. which is so where no number turns the step away
 pub step_within : (log : List ℕ) (i : ℕ) → step_refusal log i ≡ Passed → InRange log i

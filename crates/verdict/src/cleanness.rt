@@ -18,7 +18,8 @@ use crate::refusal::admit;
 use crate::step::{Step, step_at};
 use crate::walk::object_marked;
 
-// Whether step i is a judged read from another whose source is not final, by who committed and by what each writes later.
+// Whether step i is a judged read from another whose source is not final, by who committed and by what each writes later. Only a read has
+// a source other than 0, so the kind is not asked.
 fn is_faulty(
     log: &[u16],
     i: usize,
@@ -30,9 +31,6 @@ fn is_faulty(
     ensures { result ≡ source_fault log.now i }
 {
     let step = step_at(log, i);
-    if step.kind != Step::READ {
-        return false;
-    }
     let t = step.tx;
     let s = step.src;
     if s == t {
@@ -98,7 +96,9 @@ pub fn clean(log: &[u16], work: &mut [u8]) -> Result<Cleanness, Refusal>
 {
     let found = admit(log, work.len())?;
     clear(work);
-    Ok(judge_clean(log, &found.part, found.own))
+    // Who committed is taken out: what was learned is large, and lent as a whole it would be copied once more.
+    let part = found.part;
+    Ok(judge_clean(log, &part, found.own))
 }
 
 // The step of a fault.

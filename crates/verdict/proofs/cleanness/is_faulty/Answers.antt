@@ -7,9 +7,9 @@ use native.Mathlib.Omega.{arith}
 use Rattle.verdict.specs.Limits.{transactions, objects}
 use Rattle.verdict.specs.Log.{steps, kind, tx, obj, src, committed}
 use Rattle.verdict.specs.Clean.{judged_other}
-use Rattle.verdict.proofs.JudgedReads.{other_kind, own_source, reader_fails, judged_read}
+use Rattle.verdict.proofs.JudgedReads.{own_source, reader_fails, judged_read}
 use Rattle.verdict.proofs.Faults.{not_faulty, source_zero, source_open, source_later}
-use Rattle.verdict.proofs.WellFormed.{well_formed}
+use Rattle.verdict.proofs.WellFormed.{sourced_read, ranges, well_formed}
 use Rattle.verdict.proofs.Matrices.{told_committed}
 use Rattle.verdict.proofs.WriteMarks.{by_later}
 use Rattle.verdict.proofs.cleanness.is_faulty.Lts
@@ -25,31 +25,28 @@ abbrev After-takes_part-2 : Type 0
 After-takes_part-2 = Lts.After-takes_part2 tie.the-claims Reads.Pre Reads.Post
 
 abbrev Else-not-takes_part : Type 0
-Else-not-takes_part = Lts.Else4 tie.the-claims Reads.Pre Reads.Post
+Else-not-takes_part = Lts.Else3 tie.the-claims Reads.Pre Reads.Post
 
 abbrev Else-s-eq0 : Type 0
-Else-s-eq0 = Lts.Else3 tie.the-claims Reads.Pre Reads.Post
-
-abbrev Else-step-ne-READ : Type 0
-Else-step-ne-READ = Lts.Else1 tie.the-claims Reads.Pre Reads.Post
+Else-s-eq0 = Lts.Else2 tie.the-claims Reads.Pre Reads.Post
 
 -- the numbers of the read
-module _ (c : Else-step-ne-READ) where
-  is_read : kind c.args.log.now c.args.i ≡ 2
-  is_read = sym c.step_at-step.ensures.kind_is ∙ c.if-step-ne-READ.false
+module _ (c : Else-s-eq0) where
+  not_zero : src c.args.log.now c.args.i ≡ 0 → ⊥
+  not_zero e = c.if-s-eq0.false (c.step_at-step.ensures.src_is ∙ e)
 
   in_log : c.args.i < steps c.args.log.now
   unfolding steps
   in_log = omega arith
+
+  is_read : kind c.args.log.now c.args.i ≡ 2
+  is_read = sourced_read _ _ (ranges _ c.requires.0 _ in_log) not_zero
 
   source_in : src c.args.log.now c.args.i ≤ transactions
   source_in = (well_formed _ c.requires.0).sources _ in_log is_read
 
   object_in : obj c.args.log.now c.args.i < objects
   object_in = (well_formed _ c.requires.0).object _ in_log (inl is_read)
-
-not_zero : (c : Else-s-eq0) → src c.args.log.now c.args.i ≡ 0 → ⊥
-not_zero c e = c.if-s-eq0.false (c.step_at-step.ensures.src_is ∙ e)
 
 -- who committed, by the marks
 reader : (c : After-takes_part) {v : Bool} → c.takes_part.result ≡ v → let a = c.args in committed a.log.now (tx a.log.now a.i) ≡ v
@@ -62,10 +59,7 @@ source c q = sym (told_committed c.requires.2 c.takes_part-2.ensures c.step_at-s
 is_judged : (c : Else-not-takes_part) → let a = c.args in judged_other a.log.now a.i ≡ true
 is_judged c =
     let step = c.step_at-step.ensures in
-    judged_read _ _ (is_read c.before.before.before.before) (λ e. c.if-s-t.false (step.src_is ∙ e ∙ sym step.tx_is)) (reader c.before c.if-not-takes_part.false)
-
-pub returns-then-step-ne-READ : goal.returns-then-step-ne-READ
-returns-then-step-ne-READ c = sym (not_faulty _ _ (other_kind _ _ (λ e. c.if-step-ne-READ.true (c.step_at-step.ensures.kind_is ∙ e))))
+    judged_read _ _ (is_read c.before.before) (λ e. c.if-s-t.false (step.src_is ∙ e ∙ sym step.tx_is)) (reader c.before c.if-not-takes_part.false)
 
 pub returns-then-s-t : goal.returns-then-s-t
 returns-then-s-t c =
@@ -77,7 +71,7 @@ returns-then-s-eq0 c = sym (source_zero _ _ (sym c.step_at-step.ensures.src_is �
 
 pub takes_part-requires : goal.takes_part-requires
 takes_part-requires c =
-    let r = (well_formed _ c.requires.0).range _ (in_log c.before.before.before) in
+    let r = (well_formed _ c.requires.0).range _ (in_log c.before) in
     let e = c.step_at-step.ensures.tx_is in
     (omega (arith, r.0, e), omega (arith, r.1, e))
 
@@ -87,7 +81,7 @@ returns-then-not-takes_part c = sym (not_faulty _ _ (reader_fails _ _ (reader c.
 pub takes_part-requires-2 : goal.takes_part-requires-2
 takes_part-requires-2 c =
     let e = c.step_at-step.ensures.src_is in
-    (omega (arith, c.if-s-eq0.false), omega (arith, source_in c.before.before.before.before.before, e))
+    (omega (arith, c.if-s-eq0.false), omega (arith, source_in c.before.before.before, e))
 
 pub returns-then-not-takes_part-2 : goal.returns-then-not-takes_part-2
 returns-then-not-takes_part-2 c =
@@ -95,10 +89,10 @@ returns-then-not-takes_part-2 c =
 
 pub object_marked-requires : goal.object_marked-requires
 object_marked-requires c =
-    omega (arith, source_in c.before.before.before.before.before.before.before, c.step_at-step.ensures.src_is)
+    omega (arith, source_in c.before.before.before.before.before, c.step_at-step.ensures.src_is)
 
 pub returns : goal.returns
 returns c =
     let step = c.step_at-step.ensures in
-    by_later _ _ c.requires.3 (source_in c.before.before.before.before.before.before.before.before) (object_in c.before.before.before.before.before.before.before.before) step.src_is step.obj_is c.object_marked.ensures
+    by_later _ _ c.requires.3 (source_in c.before.before.before.before.before.before) (object_in c.before.before.before.before.before.before) step.src_is step.obj_is c.object_marked.ensures
     ∙ sym (source_later _ _ (is_judged c.before.before.before.before) (not_zero c.before.before.before.before.before.before) (source c.before.before.before c.if-not-takes_part-2.false))
